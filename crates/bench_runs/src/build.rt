@@ -4,10 +4,10 @@ ghost use Rattle.std.specs.Option.{option_map};
 ghost use Rattle.bench_runs.specs.Columns.{condition_of, key_column};
 
 use crate::column::Column;
-use crate::counted_spool::CountedSpool;
 use crate::options::Options;
 use crate::spool_pages::quota;
 use builder_core::{Dealing, INDEXES_MAX, Parts, Plan, WORKERS_MAX};
+use counted_spool::CountedSpool;
 use heap_table::{Heap, PAGES_MAX, SLOTS_MAX};
 use keybytes::{Fault, KeyCol, KeySpec, Kind, Schema};
 use spool_kinds::{SpoolOfKind, spools_over};

@@ -9,7 +9,6 @@ mod build;
 mod column;
 mod command_line;
 mod condition;
-mod counted_spool;
 mod dealing;
 mod failure;
 mod figure;

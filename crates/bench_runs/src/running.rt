@@ -3,7 +3,6 @@ ghost use Rattle.std.specs.Prelude.{◌≡◌};
 
 use crate::bench::{Bench, ROWS_OF_A_TRANSACTION};
 use crate::build::parts;
-use crate::counted_spool::CountedSpool;
 use crate::failure::Failure;
 use crate::options::Options;
 use crate::phase::Phase;
@@ -12,6 +11,7 @@ use crate::record::{Figures, Record};
 use crate::rows::Rows;
 use crate::subject::Subject;
 use builder_core::{Core, Parts, Table};
+use counted_spool::CountedSpool;
 use heap_table::PAGES_MAX;
 use spool_kinds::SpoolOfKind;
 use std::marker::Brand;

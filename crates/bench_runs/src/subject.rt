@@ -1,13 +1,13 @@
 //! What is measured: a table with the build of its indexes, and all that is asked of it.
 
 use crate::build::{counted_spools, plan};
-use crate::counted_spool::CountedSpool;
 use crate::failure::Failure;
 use crate::look_ups::{first_difference, look_in};
 use crate::options::Options;
 use crate::phase::Phase;
 use crate::record::Record;
 use builder_core::{Core, Event, Reply, Table};
+use counted_spool::CountedSpool;
 use heap_log::Outcome;
 use keybytes::Fault;
 use rand::rngs::SmallRng;

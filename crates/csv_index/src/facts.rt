@@ -1,12 +1,16 @@
+use crate::search::Search;
 use csv_table::{Asked, Lines};
+use std::alloc::Global;
 use words::IndexWords;
 
 /// What is known of a table beside its rows.
 #[derive(Clone, Copy)]
 pub struct Facts<'a, 'w> {
-    pub rt: &'a HostRuntime,
+    pub alloc: Global,
     pub words: &'a IndexWords<'w>,
     pub asked: &'a Asked,
+    /// What the first index is asked for.
+    pub searches: &'a [Search],
     pub lines: &'a Lines,
     pub rows: u64,
     pub left_out: u64,

@@ -4,14 +4,20 @@
 //! them, and lists the rows that the first index gives for a key or a range of keys, each with its line in the file.
 #![tactic(auto)]
 
+mod built;
 mod facts;
 mod listing;
 mod look_up;
 mod printing;
+mod progress_line;
+mod range_text;
 mod row_printer;
 mod running;
+mod search;
 mod search_key;
+mod searches;
 mod spools;
 mod watching;
 
+pub use progress_line::ProgressLine;
 pub use running::{index, refuse};

@@ -3,38 +3,79 @@
 use crate::facts::Facts;
 use crate::row_printer::RowPrinter;
 use builder_core::{Live, Table};
+use counted_spool::CountedSpool;
 use csv_table::Failure;
 use heap_log::Outcome;
 use keybytes::{Cell, Fault, KeySpec, Rid};
-use std::io::Stdout;
+use spool_kinds::SpoolOfKind;
+use std::io::{self, Write};
 use words::IndexWord;
 
 /// How many pairs a leaf of a loaded tree has, and how many children an inner node.
 const WIDTH: usize = 32;
 
+/// Prints how much was done: what was read, scanned and loaded, and how many pages the spools of each index had leased at most.
+pub fn print_counts<T: Table, E: Write>(
+    facts: Facts<'_, '_>,
+    live: &Live<T>,
+    spools: &[CountedSpool<SpoolOfKind>],
+    err: &mut E,
+) -> io::Result<()> {
+    let (rows, pages) = (facts.rows, facts.pages);
+    let mut pairs = 0usize;
+    for number in 0..live.ready().len() {
+        if let Some(index) = live.ready().get(number) {
+            pairs = pairs.saturating_add(index.tree().len());
+        }
+    }
+    writeln!(
+        err,
+        "rows read: {rows}, pages scanned: {pages}, pairs loaded: {pairs}"
+    )?;
+    for (place, word) in facts.words.indexes.iter().enumerate() {
+        let name = word.columns;
+        let leased = leased_at_most(spools, place, facts.words.indexes.len());
+        writeln!(err, "{name}: pages leased at most: {leased}")?;
+    }
+    err.flush()
+}
+
+/// How many pages the spools of the index at that place have leased, each at most.
+fn leased_at_most(spools: &[CountedSpool<SpoolOfKind>], place: usize, indexes: usize) -> usize {
+    let mut leased = 0usize;
+    for (number, spool) in spools.iter().enumerate() {
+        if indexes > 0 && number % indexes == place {
+            leased = leased.saturating_add(spool.pages());
+        }
+    }
+    leased
+}
+
 /// Prints a line for each index, and answers whether all are ready.
-pub fn print_verdicts<T: Table>(
+pub fn print_verdicts<T: Table, W: Write>(
     facts: Facts<'_, '_>,
     live: &mut Live<T>,
     verdicts: &[Outcome],
+    out: &mut W,
 ) -> Result<bool, Failure> {
     let mut all_ready = true;
     for (place, verdict) in verdicts.iter().enumerate() {
-        all_ready = print_verdict(facts, live, place, verdict)? && all_ready;
+        all_ready = print_verdict(facts, live, place, verdict, out)? && all_ready;
     }
     if facts.words.skips_bad {
         let left_out = facts.left_out;
-        println!(facts.rt; "records left out: {left_out}")?;
+        writeln!(out, "records left out: {left_out}")?;
     }
     Ok(all_ready)
 }
 
 /// Prints the line of the index at that place among those asked for, and answers whether it is ready.
-fn print_verdict<T: Table>(
+fn print_verdict<T: Table, W: Write>(
     facts: Facts<'_, '_>,
     live: &mut Live<T>,
     place: usize,
     verdict: &Outcome,
+    out: &mut W,
 ) -> Result<bool, Failure> {
     let (Some(word), Some(spec)) = (facts.words.indexes.get(place), facts.asked.specs.get(place))
     else {
@@ -42,23 +83,23 @@ fn print_verdict<T: Table>(
     };
     match verdict {
         Outcome::Ready(number) => {
-            print_ready(facts, live, *word, *number)?;
+            print_ready(live, *word, *number, out)?;
             Ok(true)
         }
         Outcome::Shared { first, second, .. } => {
             let row = live.get(*first)?;
-            print_shared(facts, word.columns, *first, *second)?;
-            print_key(facts, spec, row.cells())?;
+            print_shared(facts, word.columns, *first, *second, out)?;
+            print_key(facts, spec, row.cells(), out)?;
             Ok(false)
         }
     }
 }
 
-fn print_ready<T: Table>(
-    facts: Facts<'_, '_>,
+fn print_ready<T: Table, W: Write>(
     live: &Live<T>,
     word: IndexWord<'_>,
     number: usize,
+    out: &mut W,
 ) -> Result<(), Failure> {
     let pairs = match live.ready().get(number) {
         Some(index) => index.tree().len(),
@@ -66,7 +107,10 @@ fn print_ready<T: Table>(
     };
     let (name, unique) = (word.columns, if word.unique { ", unique" } else { "" });
     let levels = levels_of(pairs);
-    println!(facts.rt; "{name}: pairs: {pairs}, levels: {levels}{unique}, ready")?;
+    writeln!(
+        out,
+        "{name}: pairs: {pairs}, levels: {levels}{unique}, ready"
+    )?;
     Ok(())
 }
 
@@ -85,20 +129,34 @@ fn levels_of(pairs: usize) -> usize {
 }
 
 /// Names the lines of the rows at two places, up to the key that they share.
-fn print_shared(facts: Facts<'_, '_>, name: &str, first: Rid, second: Rid) -> Result<(), Failure> {
+fn print_shared<W: Write>(
+    facts: Facts<'_, '_>,
+    name: &str,
+    first: Rid,
+    second: Rid,
+    out: &mut W,
+) -> Result<(), Failure> {
     let (line, other) = (facts.lines.line(first), facts.lines.line(second));
-    print!(facts.rt; "{name}: unique, refused: lines {line} and {other} share the key ")?;
+    write!(
+        out,
+        "{name}: unique, refused: lines {line} and {other} share the key "
+    )?;
     Ok(())
 }
 
 /// The cells of the key that a row has.
-fn print_key(facts: Facts<'_, '_>, spec: &KeySpec, cells: &[Cell]) -> Result<(), Failure> {
-    let mut printer = RowPrinter::new(facts.rt.alloc(), facts.rt.stdout());
+fn print_key<W: Write>(
+    facts: Facts<'_, '_>,
+    spec: &KeySpec,
+    cells: &[Cell],
+    out: &mut W,
+) -> Result<(), Failure> {
+    let mut printer = RowPrinter::new(facts.alloc, out);
     print_cells(&mut printer, spec, cells)
 }
 
-fn print_cells(
-    printer: &mut RowPrinter<Stdout>,
+fn print_cells<W: Write + Drop>(
+    printer: &mut RowPrinter<W>,
     spec: &KeySpec,
     cells: &[Cell],
 ) -> Result<(), Failure> {

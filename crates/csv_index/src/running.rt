@@ -1,20 +1,23 @@
 //! A run from its words to what is printed.
 ghost use Rattle.std.specs.Prelude.{◌≡◌, ◌≤◌};
 
+use crate::built::Built;
 use crate::facts::Facts;
 use crate::listing::list;
-use crate::printing::print_verdicts;
-use crate::spools::{Amount, spools};
+use crate::printing::{print_counts, print_verdicts};
+use crate::searches::searches;
+use crate::spools::{Amount, counted_spools};
 use crate::watching::Watching;
 use builder_core::{Dealing, Ends, Live, Parts, Plan};
+use counted_spool::CountedSpool;
 use crew::{BuildFault, Opened, Table, TableParts, build};
-use csv_table::{Asked, Failure, Filled, ProgressLine, Reading, fill};
+use csv_table::{Asked, Failure, Filled, Reading, Watch, fill};
 use heap_log::Verdicts;
 use heap_table::Heap;
 use keybytes::{Fault, copied_specs};
 use spool_kinds::SpoolOfKind;
 use std::alloc::Global;
-use std::io::{ErrorKind, Read};
+use std::io::{self, ErrorKind, Read, Write};
 use std::marker::Brand;
 use std::sync::Wait;
 use std::thread::{Threads, available_parallelism};
@@ -32,68 +35,119 @@ const RANGES_OF_A_WORKER: usize = 8;
 /// A build beside which nobody writes ends in its first turn.
 const TRIES: u32 = 1;
 
-/// Reads the records of the reader into a table, builds the indexes that the words ask for, and prints what became of them, and the rows
-/// that the words ask the first one for. Answers the exit status: 1 where an index is refused, and 2 where nothing could be built.
-pub fn index<A: Threads + Wait + Sync, R: Read + Drop>(
-    rt: &HostRuntime,
-    threads: &A,
+/// Reads the records of the reader into a table, builds the indexes that the words ask for, and prints to `out` what became of them, and the
+/// rows that the words ask the first one for. What went wrong, and how much was done, is told on `err`. Answers the exit status: 1 where an
+/// index is refused, and 2 where nothing could be built. It may wait for the threads that it starts; `rt` is the runtime that `main` hands in.
+pub fn index<A, R, W, E, V>(
+    rt: &A,
+    alloc: Global,
     words: &IndexWords<'_>,
-    reader: R,
+    mut reader: R,
+    mut out: W,
+    mut err: E,
+    watch: V,
 ) -> u8
+where
+    A: Threads + Wait + Sync,
+    R: Read + Drop,
+    W: Write + Drop,
+    E: Write + Drop,
+    V: Watch + Send + Drop,
     ensures { result ≤ 2 }
 {
-    let progress = ProgressLine::new(rt);
-    match run(rt, threads, words, reader, progress) {
+    match run(rt, alloc, words, &mut reader, &mut out, &mut err, watch) {
         Ok(true) => 0,
         Ok(false) => 1,
-        Err(failure) => {
-            progress.clear();
-            say(rt, &failure)
-        }
+        Err(failure) => say(words.file, &failure, &mut err),
     }
 }
 
-/// Says that the file can't be read, and answers the exit status.
-pub fn refuse(rt: &HostRuntime) -> u8
+/// Says that the file can't be read, and why, and answers the exit status.
+pub fn refuse<E: Write + Drop>(file: &str, error: io::Error, mut err: E) -> u8
     ensures { result ≤ 2 }
 {
-    say(rt, &Failure::CannotRead)
+    say(file, &Failure::CannotRead(error), &mut err)
 }
 
-/// Says why a run came to nothing, and answers the exit status.
-fn say(rt: &HostRuntime, failure: &Failure) -> u8
+/// Says why a run on the file came to nothing, and answers the exit status.
+fn say<E: Write>(file: &str, failure: &Failure, err: &mut E) -> u8
     ensures { result ≤ 2 }
 {
-    let _not_told = eprintln!(rt; "sfbuild index: {failure}");
+    let _not_told = write_failure(file, failure, err);
     failure.status()
 }
 
-fn run<A: Threads + Wait + Sync, R: Read + Drop>(
-    rt: &HostRuntime,
-    threads: &A,
+fn write_failure<E: Write>(file: &str, failure: &Failure, err: &mut E) -> io::Result<()> {
+    let name = if file == "-" { "standard input" } else { file };
+    if failure.is_of_file() {
+        writeln!(err, "sfbuild index: {name}: {failure}")?;
+    } else {
+        writeln!(err, "sfbuild index: {failure}")?;
+    }
+    err.flush()
+}
+
+/// All words are looked at before the file is read.
+fn run<A, R, W, E, V>(
+    rt: &A,
+    alloc: Global,
     words: &IndexWords<'_>,
-    reader: R,
-    progress: ProgressLine,
-) -> Result<bool, Failure> {
-    let asked = Asked::new(rt.alloc(), words)?;
-    let filled = read(rt.alloc(), words, &asked, reader, progress)?;
-    run_filled(rt, threads, words, &asked, filled, progress)
+    reader: &mut R,
+    out: &mut W,
+    err: &mut E,
+    watch: V,
+) -> Result<bool, Failure>
+where
+    A: Threads + Wait + Sync,
+    R: Read,
+    W: Write,
+    E: Write,
+    V: Watch + Send + Drop,
+{
+    let asked = Asked::new(alloc, words)?;
+    let searches = searches(alloc, words, &asked)?;
+    let mut watch = watch;
+    let filled = read(alloc, words, &asked, reader, &mut watch);
+    watch.clear();
+    let Filled {
+        heap,
+        lines,
+        sizes,
+        rows,
+        left_out,
+    } = filled?;
+    let amount = Amount {
+        rows,
+        workers: words.workers.unwrap_or_else(|| processors(rt)),
+        sizes: sizes.as_slice(),
+    };
+    let facts = Facts {
+        alloc,
+        words,
+        asked: &asked,
+        searches: searches.as_slice(),
+        lines: &lines,
+        rows,
+        left_out,
+        pages: heap.pages(),
+    };
+    let work = planned(alloc, &asked, amount);
+    run_planned(rt, facts, heap, work, out, err, watch)
 }
 
 /// The table with the rows of the file.
-fn read<R: Read + Drop>(
+fn read<R: Read, V: Watch>(
     alloc: Global,
     words: &IndexWords<'_>,
     asked: &Asked,
-    reader: R,
-    progress: ProgressLine,
+    reader: &mut R,
+    watch: &mut V,
 ) -> Result<Filled, Failure> {
-    let (mut reader, mut progress) = (reader, progress);
     let mut text = Vec::new(alloc);
     if let Err(error) = reader.read_to_end(&mut text) {
         return Err(match error.kind() {
             ErrorKind::OutOfMemory => Failure::Table(Fault::Memory),
-            _ => Failure::CannotRead,
+            _ => Failure::CannotRead(error),
         });
     }
     let reading = Reading {
@@ -101,60 +155,34 @@ fn read<R: Read + Drop>(
         columns: asked.columns.as_slice(),
         skips_bad: words.skips_bad,
     };
-    fill(reading, asked.schema.copy(), text.as_slice(), &mut progress)
+    fill(reading, asked.schema.copy(), text.as_slice(), watch)
 }
 
 /// What a build is to do, and by which spools.
 #[derive(Drop)]
 struct Work {
     plan: Plan,
-    spools: Vec<SpoolOfKind>,
+    spools: Vec<CountedSpool<SpoolOfKind>>,
 }
 
-fn run_filled<A: Threads + Wait + Sync>(
-    rt: &HostRuntime,
-    threads: &A,
-    words: &IndexWords<'_>,
-    asked: &Asked,
-    filled: Filled,
-    progress: ProgressLine,
-) -> Result<bool, Failure> {
-    let Filled {
-        heap,
-        lines,
-        sizes,
-        rows,
-        left_out,
-    } = filled;
-    let workers = words.workers.unwrap_or_else(|| processors(threads));
-    let amount = Amount {
-        rows,
-        workers,
-        sizes: sizes.as_slice(),
-    };
-    let facts = Facts {
-        rt,
-        words,
-        asked,
-        lines: &lines,
-        rows,
-        left_out,
-        pages: heap.pages(),
-    };
-    let work = planned(rt.alloc(), asked, amount);
-    run_planned(threads, facts, heap, work, progress)
-}
-
-fn run_planned<A: Threads + Wait + Sync>(
-    threads: &A,
+fn run_planned<A, W, E, V>(
+    rt: &A,
     facts: Facts<'_, '_>,
     heap: Heap,
     work: Result<Work, Fault>,
-    progress: ProgressLine,
-) -> Result<bool, Failure> {
+    out: &mut W,
+    err: &mut E,
+    watch: V,
+) -> Result<bool, Failure>
+where
+    A: Threads + Wait + Sync,
+    W: Write,
+    E: Write,
+    V: Watch + Send + Drop,
+{
     let work = work?;
-    let parts = table_parts(facts.rt.alloc(), heap)?;
-    run_named::<Brand, A>(threads, facts, parts, work, progress)
+    let parts = table_parts(facts.alloc, heap)?;
+    run_named::<Brand, A, W, E, V>(rt, facts, parts, work, out, err, watch)
 }
 
 fn processors<A: Threads>(threads: &A) -> usize {
@@ -165,7 +193,7 @@ fn processors<A: Threads>(threads: &A) -> usize {
 }
 
 fn planned(alloc: Global, asked: &Asked, amount: Amount<'_>) -> Result<Work, Fault> {
-    let spools = spools(alloc, amount, asked.specs.as_slice())?;
+    let spools = counted_spools(alloc, amount, asked.specs.as_slice())?;
     let specs = copied_specs(alloc, asked.specs.as_slice())?;
     Ok(Work {
         plan: Plan {
@@ -192,58 +220,72 @@ fn table_parts(alloc: Global, heap: Heap) -> Result<TableParts, Fault> {
 }
 
 /// The same on a table with a name.
-fn run_named<T: Opened + Send + Sync, A: Threads + Wait + Sync>(
-    threads: &A,
+fn run_named<T, A, W, E, V>(
+    rt: &A,
     facts: Facts<'_, '_>,
     parts: TableParts,
     work: Work,
-    progress: ProgressLine,
+    out: &mut W,
+    err: &mut E,
+    watch: V,
 ) -> Result<bool, Failure>
+where
+    T: Opened + Send + Sync,
+    A: Threads + Wait + Sync,
+    W: Write,
+    E: Write,
+    V: Watch + Send + Drop,
     requires word { parts.word ≡ T.table }
     requires pages { parts.parts.pages ≡ T.pages }
     requires sides { parts.parts.sides ≡ T.sides }
     requires opening { parts.parts.heap.log ≡ T.opening }
 {
     let (table, ends) = parts.open::<T>();
-    let told = build_all(threads, facts, &table, ends, work, progress);
-    let mut closed = table.close(Vec::new(facts.rt.alloc()));
-    tell(facts, &mut closed.live, told, progress)
+    let built = build_all(rt, facts, &table, ends, work, watch);
+    let mut closed = table.close(Vec::new(facts.alloc));
+    tell(facts, &mut closed.live, built, out, err)
 }
 
 /// Builds the indexes by workers in threads.
-fn build_all<T: Opened + Send + Sync, A: Threads + Wait + Sync>(
-    threads: &A,
+fn build_all<T, A, V>(
+    rt: &A,
     facts: Facts<'_, '_>,
     table: &Table<T>,
     ends: Ends<T>,
     work: Work,
-    progress: ProgressLine,
-) -> Result<Verdicts, Fault> {
+    watch: V,
+) -> Result<Built, Fault>
+where
+    T: Opened + Send + Sync,
+    A: Threads + Wait + Sync,
+    V: Watch + Send + Drop,
+{
     let Work { plan, spools } = work;
-    let (alloc, gate) = (facts.rt.alloc(), Watching::new(progress, facts.pages));
-    let (_ends, _spools, told) = build(threads, alloc, table, ends, &plan, spools, &gate);
+    let gate = Watching::new(rt, watch, facts.pages);
+    let (_ends, spools, told) = build(rt, facts.alloc, table, ends, &plan, spools, &gate);
+    gate.end();
     match told {
-        Ok(report) => Ok(report.verdicts),
+        Ok(report) => Ok(Built {
+            verdicts: report.verdicts,
+            spools,
+        }),
         Err(BuildFault(fault)) => Err(fault),
     }
 }
 
 /// Prints what became of the indexes, and the rows that the words ask for.
-fn tell<T: Opened>(
+fn tell<T: Opened, W: Write, E: Write>(
     facts: Facts<'_, '_>,
     live: &mut Live<T>,
-    told: Result<Verdicts, Fault>,
-    progress: ProgressLine,
+    built: Result<Built, Fault>,
+    out: &mut W,
+    err: &mut E,
 ) -> Result<bool, Failure> {
-    let verdicts = told?;
-    let mut pairs = 0usize;
-    for number in 0..live.ready().len() {
-        if let Some(index) = live.ready().get(number) {
-            pairs = pairs.saturating_add(index.tree().len());
-        }
-    }
-    progress.end(facts.rows, facts.pages, pairs);
-    let all_ready = print_verdicts(facts, live, verdicts.as_slice())?;
-    list(facts, live, verdicts.as_slice())?;
+    let built = built?;
+    // That it can't be told how much was done is no reason to end.
+    let _not_told = print_counts(facts, live, built.spools.as_slice(), err);
+    let all_ready = print_verdicts(facts, live, built.verdicts.as_slice(), out)?;
+    list(facts, live, built.verdicts.as_slice(), out)?;
+    out.flush()?;
     Ok(all_ready)
 }

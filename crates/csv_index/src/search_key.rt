@@ -2,8 +2,8 @@
 
 use csv::StringRecord;
 use csv_table::{CellFault, Column, Failure, Refusal, cell, record};
-use keybytes::{Cell, Fault, KEY_MAX, Key, KeyCol, KeySpec, Row, Schema};
-use std::alloc::Global;
+use keybytes::{Fault, KEY_MAX, Key, KeyCol, KeySpec, Row, Schema};
+use std::alloc::{AllocError, Global};
 
 /// The bytes behind a key of an index's first columns that no key with these columns has behind it, nor a greater one.
 const ABOVE: [u8; 24] = [255; 24];
@@ -25,47 +25,43 @@ impl<'a> Subject<'a> {
             return Err(Failure::refused(self.alloc, Refusal::TooManyCells, text));
         };
         let is_whole = columns.len() == self.spec.columns().len();
-        match self.key_of(&record, columns) {
-            Ok(Some(key)) => Ok((key, is_whole)),
-            Ok(None) => Err(Failure::refused(self.alloc, Refusal::Cell, text)),
-            Err(fault) => Err(Failure::Table(fault)),
+        let row = self.row(&record, columns, text)?;
+        match self.key_of(&row, columns)? {
+            Some(key) => Ok((key, is_whole)),
+            None => Err(Failure::Table(Fault::RowShape)),
         }
     }
 
-    fn key_of(self, record: &StringRecord, columns: &[KeyCol]) -> Result<Option<Key>, Fault> {
+    /// The key that a row has by these columns.
+    fn key_of(self, row: &Row, columns: &[KeyCol]) -> Result<Option<Key>, Fault> {
         let spec = KeySpec::new(self.alloc, self.schema, columns.to_vec(self.alloc)?, false)?;
-        let mut cells = Vec::with_capacity(self.alloc, self.columns.len())?;
-        for place in 0..self.columns.len() {
-            match self.cell(record, columns, place)? {
-                Some(cell) => cells.push(cell)?,
-                None => return Ok(None),
-            }
-        }
-        let row = Row::new(cells)?;
         if !row.fits(self.schema) || !spec.is_of(self.schema) {
             return Ok(None);
         }
-        spec.key(&row)
+        spec.key(row)
     }
 
-    /// The cell of the table's column at that place: Null where none is given.
-    fn cell(
-        self,
-        record: &StringRecord,
-        columns: &[KeyCol],
-        place: usize,
-    ) -> Result<Option<Cell>, Fault> {
-        let Some(given) = columns.iter().position(|column| column.column == place) else {
-            return Ok(Some(Cell::Null));
-        };
-        let (Some(column), Some(text)) = (self.columns.get(place), record.get(given)) else {
-            return Ok(None);
-        };
-        match cell(self.alloc, column.kind, text.as_bytes()) {
-            Ok(cell) => Ok(Some(cell)),
-            Err(CellFault::Memory) => Err(Fault::Memory),
-            Err(_) => Ok(None),
+    /// A row with these cells in these columns, and Null in all others.
+    fn row(self, record: &StringRecord, columns: &[KeyCol], text: &str) -> Result<Row, Failure> {
+        let mut cells = Vec::with_capacity(self.alloc, self.columns.len())?;
+        for (place, column) in self.columns.iter().enumerate() {
+            let given = columns.iter().position(|named| named.column == place);
+            let field = given.and_then(|given| record.get(given)).unwrap_or("");
+            match cell(self.alloc, column.kind, field.as_bytes()) {
+                Ok(cell) => cells.push(cell)?,
+                Err(fault) => return Err(self.refused(fault, text, column)?),
+            }
         }
+        Ok(Row::new(cells)?)
+    }
+
+    /// The refusal of a text for its cell of a column.
+    fn refused(self, fault: CellFault, text: &str, column: &Column) -> Result<Failure, AllocError> {
+        if fault == CellFault::Memory {
+            return Ok(Failure::Table(Fault::Memory));
+        }
+        let text = String::from_str(self.alloc, text)?;
+        Ok(Failure::KeyCell(fault, text, column.name.clone()?))
     }
 }
 

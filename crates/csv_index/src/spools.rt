@@ -1,6 +1,7 @@
 //! The spools of a build.
 
 use builder_core::{INDEXES_MAX, WORKERS_MAX};
+use counted_spool::CountedSpool;
 use csv_table::KeySizes;
 use keybytes::{Fault, KEY_MAX, KeySpec};
 use spool_choice::SpoolChoice;
@@ -35,12 +36,21 @@ pub struct Amount<'a> {
     pub sizes: &'a [KeySizes],
 }
 
-/// A spool for each worker and index, in the order of the workers.
-pub fn spools(
+/// A spool for each worker and index, in the order of the workers, each with a count of its pages.
+pub fn counted_spools(
     alloc: Global,
     amount: Amount<'_>,
     specs: &[KeySpec],
-) -> Result<Vec<SpoolOfKind>, Fault> {
+) -> Result<Vec<CountedSpool<SpoolOfKind>>, Fault> {
+    let spools = spools(alloc, amount, specs)?;
+    let mut counted = Vec::with_capacity(alloc, spools.len())?;
+    for spool in spools {
+        counted.push(CountedSpool::new(spool))?;
+    }
+    Ok(counted)
+}
+
+fn spools(alloc: Global, amount: Amount<'_>, specs: &[KeySpec]) -> Result<Vec<SpoolOfKind>, Fault> {
     let count = amount.workers.min(WORKERS_MAX).saturating_mul(specs.len());
     let mut quotas = Vec::new(alloc);
     for _ in 0..amount.workers.min(WORKERS_MAX) {

@@ -1,1 +1,5 @@
+pub mod BadRows
 pub mod Cells
+pub mod Fillings
+pub mod Failures
+pub mod Headers

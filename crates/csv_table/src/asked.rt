@@ -3,7 +3,7 @@ use crate::condition::condition;
 use crate::failure::Failure;
 use crate::key_columns::key_spec;
 use crate::refusal::Refusal;
-use keybytes::{KeySpec, Schema, When};
+use keybytes::{KeySpec, Schema};
 use std::alloc::Global;
 use words::{IndexWord, IndexWords};
 
@@ -52,47 +52,38 @@ fn specs(
     if let Some(index) = words.indexes.get(INDEXES_MAX) {
         return Err(Failure::refused(alloc, Refusal::TooManyIndexes, index.columns));
     }
-    let condition = asked_condition(alloc, columns, words.condition)?;
     let mut specs = Vec::with_capacity(alloc, words.indexes.len())?;
     for index in &words.indexes {
-        specs.push(spec(alloc, schema, columns, *index, &condition)?)?;
+        specs.push(spec(alloc, schema, columns, *index, words.condition)?)?;
     }
     Ok(specs)
 }
 
-fn asked_condition(
-    alloc: Global,
-    columns: &[Column],
-    text: Option<&str>,
-) -> Result<Option<When>, Failure> {
-    match text {
-        Some(text) => Ok(Some(condition(alloc, columns, text)?)),
-        None => Ok(None),
-    }
-}
-
+/// What makes the keys of an index, which takes only rows that meet the condition.
 fn spec(
     alloc: Global,
     schema: &Schema,
     columns: &[Column],
     index: IndexWord<'_>,
-    condition: &Option<When>,
+    condition: Option<&str>,
 ) -> Result<KeySpec, Failure> {
     let spec = key_spec(alloc, schema, columns, index.columns, index.unique)?;
     match condition {
-        Some(condition) => with_when(alloc, schema, spec, condition.clone()?),
+        Some(text) => with_condition(alloc, schema, columns, spec, text),
         None => Ok(spec),
     }
 }
 
-fn with_when(
+fn with_condition(
     alloc: Global,
     schema: &Schema,
+    columns: &[Column],
     spec: KeySpec,
-    condition: When,
+    text: &str,
 ) -> Result<KeySpec, Failure> {
+    let condition = condition(alloc, columns, text)?;
     match spec.with_when(schema, condition) {
         Ok(spec) => Ok(spec),
-        Err(_) => Err(Failure::refused(alloc, Refusal::Condition, "")),
+        Err(_) => Err(Failure::refused(alloc, Refusal::Condition, text)),
     }
 }

@@ -21,14 +21,19 @@ pub fn columns(alloc: Global, list: &str) -> Result<Vec<Column>, Failure> {
     let record = record(alloc, list)?;
     let mut columns = Vec::new(alloc);
     for place in 0..record.len() {
-        add_column(alloc, &mut columns, record.get(place).unwrap_or(""))?;
+        add_column(alloc, &mut columns, list, record.get(place).unwrap_or(""))?;
     }
     Ok(columns)
 }
 
-fn add_column(alloc: Global, columns: &mut Vec<Column>, text: &str) -> Result<(), Failure> {
-    if text.is_empty() {
-        return Err(Failure::refused(alloc, Refusal::NoColumn, ""));
+fn add_column(
+    alloc: Global,
+    columns: &mut Vec<Column>,
+    list: &str,
+    text: &str,
+) -> Result<(), Failure> {
+    if text.is_empty() || text.starts_with(':') {
+        return Err(Failure::refused(alloc, Refusal::NoColumn, list));
     }
     let Some((name, kind)) = named(text) else {
         return Err(Failure::refused(alloc, Refusal::NoKind, text));

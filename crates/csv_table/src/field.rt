@@ -1,6 +1,6 @@
 //! What a field of a file is in a table.
-ghost use Rattle.std.specs.Prelude.{◌≡◌, IfOk};
-ghost use Rattle.csv_table.specs.Cells.{ReadsAs};
+ghost use Rattle.std.specs.Prelude.{◌≡◌, ◌⊎◌, ◌<◌, IfOk, IfErr, length};
+ghost use Rattle.csv_table.specs.Cells.{IsNoCell, ReadsAs};
 
 use crate::cell_fault::CellFault;
 use keybytes::{Cell, Kind, TEXT_MAX, Text};
@@ -8,7 +8,8 @@ use std::alloc::Global;
 
 /// The cell that a field of a column of that kind is; an empty one is Null.
 pub fn cell(alloc: Global, kind: Kind, field: &[u8]) -> Result<Cell, CellFault>
-    ensures { IfOk result (ReadsAs kind field.now) }
+    ensures read { IfOk result (ReadsAs kind field.now) }
+    ensures refused { IfErr result (λ fault. (fault ≡ CellFault.Memory) ⊎ IsNoCell kind field.now) }
 {
     if field.is_empty() {
         return Ok(Cell::Null);
@@ -31,7 +32,8 @@ pub fn cell(alloc: Global, kind: Kind, field: &[u8]) -> Result<Cell, CellFault>
 }
 
 fn text_cell(alloc: Global, text: &str) -> Result<Cell, CellFault>
-    ensures { IfOk result (λ cell. cell ≡ Cell.Text text.now) }
+    ensures read { IfOk result (λ cell. cell ≡ Cell.Text text.now) }
+    ensures refused { IfErr result (λ fault. (fault ≡ CellFault.Memory) ⊎ (100 < length text.now)) }
 {
     if text.len() > TEXT_MAX {
         return Err(CellFault::TooLong);

@@ -1,26 +1,32 @@
 //! From the records of a file to the rows of a table.
+ghost use Rattle.std.specs.Prelude.{◌≡◌, ◌⊎◌, ◌+◌, ◌-◌, ◌<◌, ◌^◌, IfErr, IfOk, OnOk};
+ghost use Rattle.csv.specs.Records.{field_at, fields_of};
+ghost use Rattle.heap_table.specs.Pages.{KeepsRows};
+ghost use Rattle.csv_table.specs.BadRows.{IsOfRecord};
+ghost use Rattle.csv_table.specs.Cells.{IsNoCell};
+ghost use Rattle.csv_table.specs.Fillings.{AreTaken, IsCellAt, IsFilledFrom, IsLeftOut, IsNoRow, IsPutIn, IsTakenIn, SpellsRow, TakesRecord, field_or_empty};
 
 use crate::bad_row::BadRow;
 use crate::cell_fault::CellFault;
 use crate::column::Column;
 use crate::failure::Failure;
 use crate::field::cell;
-use crate::header::places;
+use crate::header::sources;
 use crate::key_sizes::KeySizes;
+use crate::layout::Layout;
 use crate::line_counter::LineCounter;
 use crate::lines::Lines;
-use crate::progress_line::ProgressLine;
+use crate::records::Records;
 use crate::refusal::Refusal;
-use csv::{ByteRecord, Reader, ReaderBuilder};
+use crate::source::Source;
+use crate::watch::Watch;
+use csv::ByteRecord;
 use heap_table::{Heap, PAGES_MAX, SLOTS_MAX};
-use keybytes::{Fault, Row, Schema};
+use keybytes::{Cell, Fault, Row, Schema};
 use std::alloc::Global;
 
 /// The rows that one transaction puts in.
 const ROWS_OF_A_TRANSACTION: u64 = 1_000;
-
-/// The bytes of a mark that may stand before a text in UTF-8.
-const MARK: &[u8] = b"\xEF\xBB\xBF";
 
 /// A table with the rows of a file.
 #[derive(Drop)]
@@ -41,28 +47,15 @@ pub struct Reading<'a> {
     pub skips_bad: bool,
 }
 
-/// Where the columns stand in a record, and how many fields it has.
-struct Layout {
-    places: Vec<usize>,
-    width: usize,
-}
-
-impl Drop for Layout {
-    fn drop(self) {
-        let Layout {
-            places: _,
-            width: _,
-        } = self;
-    }
-}
-
-/// Puts the rows of the text into a table.
-pub fn fill(
+/// Puts the rows of the text into a table. A text that begins with a byte order mark is read without it.
+pub fn fill<V: Watch>(
     reading: Reading<'_>,
     schema: Schema,
     text: &[u8],
-    progress: &mut ProgressLine,
-) -> Result<Filled, Failure> {
+    watch: &mut V,
+) -> Result<Filled, Failure>
+    ensures { IfOk result (IsFilledFrom schema reading.entry.columns.now text.now) }
+{
     let alloc = reading.alloc;
     let mut filled = Filled {
         heap: Heap::new(alloc, schema, SLOTS_MAX, PAGES_MAX)?,
@@ -71,96 +64,129 @@ pub fn fill(
         rows: 0,
         left_out: 0,
     };
-    match read_all(reading, text, &mut filled, progress) {
+    match read_all(reading, text, &mut filled, watch) {
         Ok(()) => Ok(filled),
         Err(failure) => Err(failure),
     }
 }
 
-fn read_all(
+fn read_all<V: Watch>(
     reading: Reading<'_>,
     text: &[u8],
     filled: &mut Filled,
-    progress: &mut ProgressLine,
-) -> Result<(), Failure> {
-    let text = text.strip_prefix(MARK).unwrap_or(text);
-    let mut reader = ReaderBuilder::new()
-        .has_headers(false)
-        .flexible(true)
-        .from_reader(reading.alloc, text);
+    watch: &mut V,
+) -> Result<(), Failure>
+    requires rows { filled.old.rows ≡ 0 }
+    requires left_out { filled.old.left_out ≡ 0 }
+    ensures { OnOk result (IsTakenIn reading.entry.columns.now text.now filled.old.heap.state filled.new) }
+{
+    let mut records = Records::new(reading.alloc, text);
     let mut record = ByteRecord::new(reading.alloc);
-    if !read_next(&mut reader, &mut record)? {
+    if !records.read(&mut record)? {
         return Err(Failure::refused(reading.alloc, Refusal::Empty, ""));
     }
     let layout = Layout {
-        places: places(reading.alloc, &record, reading.columns)?,
+        sources: sources(reading.alloc, &record, reading.columns)?,
         width: record.len(),
     };
     let mut lines = LineCounter::new(text);
     read_rows(
         reading,
         &layout,
-        &mut reader,
+        &mut records,
         &mut record,
         &mut lines,
         filled,
-        progress,
+        watch,
     )
 }
 
-/// Whether there is another record, which is then read.
-fn read_next(reader: &mut Reader<&[u8]>, record: &mut ByteRecord) -> Result<bool, Failure> {
-    match reader.read_byte_record(record) {
-        Ok(found) => Ok(found),
-        Err(_) => Err(Failure::Table(Fault::Memory)),
-    }
-}
-
 /// Puts the records that are left into the table.
-fn read_rows(
+fn read_rows<V: Watch>(
     reading: Reading<'_>,
     layout: &Layout,
-    reader: &mut Reader<&[u8]>,
+    records: &mut Records<'_>,
     record: &mut ByteRecord,
     lines: &mut LineCounter<'_>,
     filled: &mut Filled,
-    progress: &mut ProgressLine,
-) -> Result<(), Failure> {
-    let mut txn = filled.heap.begin()?;
+    watch: &mut V,
+) -> Result<(), Failure>
+    requires rows { filled.old.rows ≡ 0 }
+    requires left_out { filled.old.left_out ≡ 0 }
+    ensures { OnOk result (AreTaken layout.now.width layout.now.sources.items records.old filled.old.heap.state filled.new) }
+{
+    let mut txn = begin(&mut filled.heap)?;
     for number in 0..u64::MAX {
-        if !read_next(reader, record)? {
-            break;
-        }
-        if number % ROWS_OF_A_TRANSACTION == ROWS_OF_A_TRANSACTION - 1 {
+        if !records.read(record)? {
             filled.heap.commit(txn)?;
-            txn = filled.heap.begin()?;
-            progress.show_rows(filled.rows);
+            return Ok(());
         }
+        txn = turn(filled, txn, number, watch)?;
         let start = record.position().map_or(0, |position| position.byte);
         let line = lines.line_from(start as usize);
-        if let Err(fault) = put(reading, layout, record, line, txn, filled) {
-            pass(reading, line, fault, filled)?;
-        }
+        take(reading, layout, record, line, txn, filled)?;
     }
-    filled.heap.commit(txn)?;
-    Ok(())
+    Err(Failure::Table(Fault::Memory))
+}
+
+fn begin(heap: &mut Heap) -> Result<u64, Failure>
+    ensures { OnOk result (KeepsRows heap.old.state.log heap.new.state.log) }
+{
+    Ok(heap.begin()?)
+}
+
+/// Ends a transaction, and begins the next.
+fn next_txn(heap: &mut Heap, txn: u64) -> Result<u64, Failure>
+    ensures { OnOk result (KeepsRows heap.old.state.log heap.new.state.log) }
+{
+    heap.commit(txn)?;
+    Ok(heap.begin()?)
+}
+
+/// The transaction of the record of that number, from 0, behind the one that is given.
+fn turn<V: Watch>(filled: &mut Filled, txn: u64, number: u64, watch: &mut V) -> Result<u64, Failure>
+    ensures kept { OnOk result (KeepsRows filled.old.heap.state.log filled.new.heap.state.log) }
+    ensures counted { OnOk result (filled.new.rows ≡ filled.old.rows) }
+    ensures left_out { OnOk result (filled.new.left_out ≡ filled.old.left_out) }
+{
+    if number % ROWS_OF_A_TRANSACTION != ROWS_OF_A_TRANSACTION - 1 {
+        return Ok(txn);
+    }
+    watch.show_rows(filled.rows);
+    next_txn(&mut filled.heap, txn)
+}
+
+/// Puts a record into the table, or leaves it out.
+fn take(
+    reading: Reading<'_>,
+    layout: &Layout,
+    record: &ByteRecord,
+    line: u64,
+    txn: u64,
+    filled: &mut Filled,
+) -> Result<(), Failure>
+    requires { filled.old.rows + filled.old.left_out < 2 ^ 64 - 1 }
+    ensures { OnOk result (TakesRecord layout.now.width layout.now.sources.items (fields_of «record».now) filled.old filled.new) }
+{
+    match read_row(reading, layout, record) {
+        Ok(row) => put(reading.alloc, row, line, txn, filled),
+        Err(fault) => leave_out(reading, line, fault, filled),
+    }
 }
 
 /// Counts a record that is no row, or ends with it.
-fn pass(
+fn leave_out(
     reading: Reading<'_>,
     line: u64,
     fault: BadRow,
     filled: &mut Filled,
-) -> Result<(), Failure> {
-    let is_bad = match fault {
-        BadRow::Fields(_) => true,
-        BadRow::Cell(_, fault) => fault != CellFault::Memory,
-        // The row is good, and the table is full.
-        BadRow::Refused(_) => false,
-    };
-    if reading.skips_bad && is_bad {
-        filled.left_out = filled.left_out.saturating_add(1);
+) -> Result<(), Failure>
+    requires { filled.old.left_out < 2 ^ 64 - 1 }
+    ensures bad { OnOk result (IsOfRecord fault) }
+    ensures left_out { OnOk result (IsLeftOut filled.old filled.new) }
+{
+    if reading.skips_bad && fault.is_of_record() {
+        filled.left_out += 1;
         return Ok(());
     }
     let place = match fault {
@@ -174,39 +200,60 @@ fn pass(
     Err(Failure::Row(line, fault, name))
 }
 
-/// Puts a record into the table.
-fn put(
-    reading: Reading<'_>,
-    layout: &Layout,
-    record: &ByteRecord,
-    line: u64,
-    txn: u64,
-    filled: &mut Filled,
-) -> Result<(), BadRow> {
-    let row = read_row(reading, layout, record)?;
-    for (place, cell) in row.cells().iter().enumerate() {
-        if let Some(sizes) = filled.sizes.get_mut(place) {
-            sizes.add(cell);
-        }
+/// Puts a row into the table.
+fn put(alloc: Global, row: Row, line: u64, txn: u64, filled: &mut Filled) -> Result<(), Failure>
+    requires { filled.old.rows < 2 ^ 64 - 1 }
+    ensures put { OnOk result (IsPutIn filled.old.heap.state row filled.new.heap.state) }
+    ensures counted { OnOk result (filled.new.rows ≡ filled.old.rows + 1) }
+    ensures left_out { OnOk result (filled.new.left_out ≡ filled.old.left_out) }
+{
+    add_sizes(&mut filled.sizes, row.cells());
+    match filled.heap.insert(txn, row) {
+        Ok((_, rid)) => filled.lines.note(rid, line)?,
+        Err(fault) => return Err(Failure::Row(line, BadRow::Refused(fault), String::new(alloc))),
     }
-    let (_, rid) = filled.heap.insert(txn, row)?;
-    filled.lines.note(rid, line)?;
-    filled.rows = filled.rows.saturating_add(1);
+    filled.rows += 1;
     Ok(())
 }
 
-/// The row that a record is.
-fn read_row(reading: Reading<'_>, layout: &Layout, record: &ByteRecord) -> Result<Row, BadRow> {
-    if record.len() != layout.width {
-        return Err(BadRow::Fields(record.len()));
+/// Another row has these cells.
+fn add_sizes(sizes: &mut Vec<KeySizes>, cells: &[Cell]) {
+    for (place, cell) in cells.iter().enumerate() {
+        if let Some(sizes) = sizes.get_mut(place) {
+            sizes.add(cell);
+        }
     }
-    let mut cells = Vec::with_capacity(reading.alloc, reading.columns.len())?;
-    for (place, column) in reading.columns.iter().enumerate() {
-        let field = layout.places.get(place).and_then(|at| record.get(*at));
-        match cell(reading.alloc, column.kind, field.unwrap_or(&[])) {
+}
+
+/// The row that a record is.
+fn read_row(reading: Reading<'_>, layout: &Layout, record: &ByteRecord) -> Result<Row, BadRow>
+    ensures spelled { IfOk result (SpellsRow layout.now.width layout.now.sources.items (fields_of «record».now)) }
+    ensures refused { IfErr result (λ bad. IsOfRecord bad → IsNoRow layout.now.width layout.now.sources.items (fields_of «record».now)) }
+{
+    if record.len() != layout.width {
+        return Err(BadRow::Fields {
+            found: record.len(),
+            wanted: layout.width,
+        });
+    }
+    let mut cells = Vec::with_capacity(reading.alloc, layout.sources.len())?;
+    for (place, source) in layout.sources.iter().enumerate() {
+        match cell_at(reading.alloc, *source, record) {
             Ok(cell) => cells.push(cell)?,
             Err(fault) => return Err(BadRow::Cell(place, fault)),
         }
     }
     Ok(Row::new(cells)?)
+}
+
+/// The cell that a record has of a column.
+fn cell_at(alloc: Global, source: Source, record: &ByteRecord) -> Result<Cell, CellFault>
+    ensures read { IfOk result (IsCellAt (fields_of «record».now) source) }
+    ensures refused { IfErr result (λ fault. (fault ≡ CellFault.Memory)
+        ⊎ IsNoCell source.kind (field_or_empty (field_at (fields_of «record».now) source.at))) }
+{
+    match record.get(source.at) {
+        Some(field) => cell(alloc, source.kind, field),
+        None => cell(alloc, source.kind, &[]),
+    }
 }

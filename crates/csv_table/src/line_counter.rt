@@ -1,6 +1,6 @@
 ghost use Rattle.std.specs.Prelude.{◌≡◌};
 
-/// Counts the lines of a text up to its records.
+/// Counts the lines of a text up to its records. A line ends with `\n`, `\r\n` or `\r` alone.
 pub struct LineCounter<'a> {
     text: &'a [u8],
     /// The bytes before it are counted.
@@ -37,10 +37,10 @@ impl<'a> LineCounter<'a> {
             if self.at >= place && *byte != b'\n' && *byte != b'\r' {
                 break;
             }
-            if *byte == b'\n' {
+            self.at = self.at.saturating_add(1);
+            if *byte == b'\n' || (*byte == b'\r' && self.text.get(self.at) != Some(&b'\n')) {
                 self.line = self.line.saturating_add(1);
             }
-            self.at = self.at.saturating_add(1);
         }
         self.line
     }

@@ -16,7 +16,6 @@ pub enum Refusal {
     /// Of `--where`, `--find` and `--range`.
     Condition,
     TooManyCells,
-    Cell,
     Range,
     /// Of any list.
     Lines,
@@ -27,6 +26,11 @@ pub enum Refusal {
 }
 
 impl Refusal {
+    /// Whether it is about the file's header.
+    pub fn is_of_header(self) -> bool {
+        matches!(self, Refusal::Empty | Refusal::Missing | Refusal::Twice)
+    }
+
     /// What is said behind the text.
     fn words(self) -> &'static str {
         match self {
@@ -34,7 +38,7 @@ impl Refusal {
                 "no column with its kind, as people:int, where the kind is int, text or flag",
             Refusal::AskedTwice => "named twice in --columns",
             Refusal::TooManyColumns => "one column too many: a table has at most 12",
-            Refusal::NoColumn => "--columns names no column",
+            Refusal::NoColumn => "a column without a name: --columns takes NAME:KIND,..",
             Refusal::NoIndex => "no index is asked for: --on or --unique names the columns of one",
             Refusal::TooManyIndexes => "one index too many: there are at most 8",
             Refusal::NotAsked => "no column that --columns names",
@@ -42,9 +46,8 @@ impl Refusal {
             Refusal::Condition =>
                 "no condition: that is COLUMN<CELL, COLUMN=CELL or COLUMN~, and the cell is of the column's kind",
             Refusal::TooManyCells => "more cells than the first index has columns",
-            Refusal::Cell => "no key: a cell isn't of its column's kind",
             Refusal::Range =>
-                "no range: that is a key, two points and a key, of which either may be left out",
+                "no range: that is a key, two points outside quotes and a key, of which either may be left out",
             Refusal::Lines => "more than one line",
             Refusal::Empty => "the file is empty: it has no header",
             Refusal::Missing => "no column of the file's header",

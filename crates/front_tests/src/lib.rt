@@ -2,7 +2,21 @@
 #![tactic(auto)]
 
 #[cfg(test)]
+mod broken;
+#[cfg(test)]
 mod conversations;
+#[cfg(test)]
+mod index_case;
+#[cfg(test)]
+mod index_failures;
+#[cfg(test)]
+mod index_files;
+#[cfg(test)]
+mod index_orders;
+#[cfg(test)]
+mod index_words;
+#[cfg(test)]
+mod indexed;
 #[cfg(test)]
 mod pictures;
 #[cfg(test)]

@@ -114,10 +114,21 @@ fn converse(rt: &HostRuntime) -> u8 {
 /// Builds the indexes that the words ask for.
 fn index<A: Threads + Wait + Sync>(rt: &HostRuntime, threads: &A, words: &IndexWords<'_>) -> u8 {
     if words.file == "-" {
-        return csv_index::index(rt, threads, words, rt.stdin());
+        return index_on(rt, threads, words, rt.stdin());
     }
     match File::open(rt, words.file) {
-        Ok(file) => csv_index::index(rt, threads, words, file),
-        Err(_) => csv_index::refuse(rt),
+        Ok(file) => index_on(rt, threads, words, file),
+        Err(error) => csv_index::refuse(words.file, error, rt.stderr()),
     }
+}
+
+fn index_on<A: Threads + Wait + Sync, R: Read + Drop>(
+    rt: &HostRuntime,
+    threads: &A,
+    words: &IndexWords<'_>,
+    file: R,
+) -> u8 {
+    let (alloc, out, err) = (rt.alloc(), rt.stdout(), rt.stderr());
+    let line = csv_index::ProgressLine::new(*rt, err, err.is_terminal());
+    csv_index::index(threads, alloc, words, file, out, err, line)
 }

@@ -17,9 +17,13 @@ that of the file as long as no row finds room on an earlier page.
 For each index a line tells how many pairs it has, how many levels its tree has, and whether it is ready. A unique index is
 refused where rows share a key, an empty cell counting as any other; then the exit status is 1.
 
-A key that begins with `-` is joined by `=`, as --find=-3, and one in a range has no two points in it. Where a column descends a
-range begins with the greater cell, as 7..5. Blank lines of the file are passed over. The exit status is 2 where nothing could be
-built, or the answer couldn't be written.
+A key that begins with `-` is joined by `=`, as --find=-3. A range is parted at its first two points that aren't in quotes, as
+'\"a..b\"..c'. Where a column descends a range begins with the greater cell, as 7..5. Lines of the file end with a line feed, a carriage
+return, or both; blank ones are passed over. All words are looked at before the file is read. The exit status is 2 where nothing could
+be built, or the answer couldn't be written.
+
+The standard error tells how many rows were read, and for each index how many pages its workers' spools had leased at most; with several
+workers that depends on which of them took which pages.
 
 What a table here can't hold: texts over 100 bytes, more than 12 columns, more than 65,536 pages of 4,096 bytes with up to
 255 rows each. It lies in memory, and is gone when the command ends.
