@@ -1,5 +1,5 @@
 -- What a picture knows of the scan of a build, and on which side of it a RID is.
-use Rattle.std.specs.Prelude.{ℕ, Bool, ◌||◌, nat_le, if◌then◌else◌, length, Option, Some, None}
+use Rattle.std.specs.Prelude.{ℕ, ◌||◌, nat_le, if◌then◌else◌, length, Option, Some, None}
 use Rattle.keybytes.specs.declared.rid.Rid.{Rid}
 use Rattle.scan_range.specs.Ranges.{RangesValue, after_advance, is_done}
 use Rattle.visibility.specs.Visible.{is_visible_in}
