@@ -1,5 +1,5 @@
 //! From the records of a file to the rows of a table.
-ghost use Rattle.std.specs.Prelude.{◌≡◌, ◌⊎◌, ◌+◌, ◌-◌, ◌<◌, ◌^◌, IfErr, IfOk, OnOk};
+ghost use Rattle.std.specs.Prelude.{◌≡◌, ◌⊎◌, ◌+◌, ◌-◌, ◌<◌, ◌^◌, [], ◌∷◌, Ok, true, false, IfErr, IfOk, OnOk};
 ghost use Rattle.csv.specs.Records.{field_at, fields_of};
 ghost use Rattle.heap_table.specs.Pages.{KeepsRows};
 ghost use Rattle.csv_table.specs.BadRows.{IsOfRecord};
@@ -16,13 +16,13 @@ use crate::key_sizes::KeySizes;
 use crate::layout::Layout;
 use crate::line_counter::LineCounter;
 use crate::lines::Lines;
-use crate::records::Records;
 use crate::refusal::Refusal;
 use crate::source::Source;
 use crate::watch::Watch;
 use csv::ByteRecord;
 use heap_table::{Heap, PAGES_MAX, SLOTS_MAX};
 use keybytes::{Cell, Fault, Row, Schema};
+use script::Records;
 use std::alloc::Global;
 
 /// The rows that one transaction puts in.
@@ -82,7 +82,7 @@ fn read_all<V: Watch>(
 {
     let mut records = Records::new(reading.alloc, text);
     let mut record = ByteRecord::new(reading.alloc);
-    if !records.read(&mut record)? {
+    if !read(&mut records, &mut record)? {
         return Err(Failure::refused(reading.alloc, Refusal::Empty, ""));
     }
     let layout = Layout {
@@ -117,7 +117,7 @@ fn read_rows<V: Watch>(
 {
     let mut txn = begin(&mut filled.heap)?;
     for number in 0..u64::MAX {
-        if !records.read(record)? {
+        if !read(records, record)? {
             filled.heap.commit(txn)?;
             return Ok(());
         }
@@ -127,6 +127,17 @@ fn read_rows<V: Watch>(
         take(reading, layout, record, line, txn, filled)?;
     }
     Err(Failure::Table(Fault::Memory))
+}
+
+/// Reads the next record, and answers whether there is one. Of a text in memory that fails only for want of memory.
+fn read(records: &mut Records<'_>, record: &mut ByteRecord) -> Result<bool, Failure>
+    ensures found { result ≡ Ok true → records.old ≡ fields_of «record».new ∷ records.new }
+    ensures ended { result ≡ Ok false → records.old ≡ [] }
+{
+    match records.read_bytes(record) {
+        Ok(found) => Ok(found),
+        Err(_) => Err(Failure::Table(Fault::Memory)),
+    }
 }
 
 fn begin(heap: &mut Heap) -> Result<u64, Failure>

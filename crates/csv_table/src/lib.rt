@@ -19,7 +19,6 @@ mod layout;
 mod line_counter;
 mod lines;
 mod list;
-mod records;
 mod refusal;
 mod source;
 mod watch;

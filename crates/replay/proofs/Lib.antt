@@ -1,5 +1,5 @@
 mod BuildsKept
-mod KeyedPairs
+pub mod KeyedPairs
 mod Leased
 mod Replies
 mod SharedLines

@@ -35,6 +35,7 @@ mod stop;
 mod table;
 mod unfit;
 
+pub use cause::Cause;
 pub use check_error::CheckError;
 pub use command::Command;
 pub use command_name::CommandName;
@@ -50,6 +51,7 @@ pub use race::{
     Build, RaceCheckError, RaceExplanation, RaceMisfit, RaceName, RaceScript, SessionCommand,
     SessionStep,
 };
+pub use records::Records;
 pub use script::{Script, read_text};
 pub use script_error::ScriptError;
 pub use spec::Spec;

@@ -35,6 +35,6 @@ loop-number-preserved g c =
     let before = taken_kept layout.width layout.sources.items was.0 start c.loop-number.filled c.turn.new.filled was.2 turned.kept turned.counted turned.left_out in
     let after = take_more layout.width layout.sources.items was.0 start c.turn.new.filled c.take.new.filled fields before c.in_ok-take.ensures in
     let more = counted_more layout.width layout.sources.items fields c.turn.new.filled c.take.new.filled c.in_ok-take.ensures in (
-      (was.0 ++ fields ∷ [], append_assoc was.0 (fields ∷ []) c.read.new.self ∙ sym (ap (λ (records : List (List (List ℕ))). was.0 ++ records) found) ∙ was.1, after),
+      (was.0 ++ fields ∷ [], append_assoc was.0 (fields ∷ []) c.read.new.records ∙ sym (ap (λ (records : List (List (List ℕ))). was.0 ++ records) found) ∙ was.1, after),
       omega (arith, more, turned.counted, turned.left_out, c.loop-number.invariant.1),
     )

@@ -1,4 +1,4 @@
-use Rattle.script_picture.proofs.KeyedPairs.{keyed_by}
+use Rattle.replay.proofs.KeyedPairs.{keyed_by}
 use Rattle.script_picture.proofs.gains.ready.Goals as goal
 
 pub add_pairs-requires : goal.add_pairs-requires

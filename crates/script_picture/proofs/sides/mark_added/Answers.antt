@@ -1,5 +1,5 @@
 use Rattle.std.specs.VecDeque.Iter.{deque_iter_rest}
-use Rattle.script_picture.proofs.KeyedPairs.{entry_keys}
+use Rattle.replay.proofs.KeyedPairs.{entry_keys}
 use Rattle.script_picture.proofs.sides.mark_added.Goals as goal
 
 pub mark_behind-requires : goal.mark_behind-requires
