@@ -7,7 +7,11 @@ use std::test::Fail;
 use words::{Choice, IndexWord, Task, read};
 
 /// Commands with their tasks.
-static TASKS: [(&str, Task); 2] = [("replay", Task::Replay), ("check", Task::Check)];
+static TASKS: [(&str, Task); 3] = [
+    ("replay", Task::Replay),
+    ("check", Task::Check),
+    ("picture", Task::Picture),
+];
 
 static SCRIPTS: [&str; 3] = ["three.csv", "-", "./a b"];
 
