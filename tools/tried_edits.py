@@ -1,17 +1,20 @@
 """Which edits were refused over which sources: the file wrong-bodies.tried, which wrong-bodies writes and reads."""
+import fcntl
 import hashlib
 import os
-import threading
 
 
 class Tried:
-    """A line a crate: its name, a sum of the files that its proof reads, its own and those of the crates below, and sums of the edits that
-    were refused over them."""
+    """A line a crate: its name, a sum of the logic and of the files that its proof reads, its own and those of the crates below, and sums of
+    the edits that were refused over them."""
 
-    def __init__(self, parts):
-        self.file, self.writing = f"{os.path.dirname(os.path.realpath(__file__))}/wrong-bodies.tried", threading.Lock()
-        # (a crate's folders that a proof reads, and what was summed already)
-        self.parts, self.seen = parts, {}
+    def __init__(self, parts, logic):
+        self.file = f"{os.path.dirname(os.path.realpath(__file__))}/wrong-bodies.tried"
+        # (a crate's folders that a proof reads, what the prover is, and what was summed already)
+        self.parts, self.logic, self.seen = parts, logic, {}
+        self.read()
+
+    def read(self):
         self.sources, self.edits = {}, {}
         if os.path.isfile(self.file):
             with open(self.file, encoding="utf-8") as it:
@@ -22,7 +25,10 @@ class Tried:
         return self.sources.get(crate.name) == self.sum_of_sources(crate) and sum_of_edit(edit) in self.edits[crate.name]
 
     def note(self, crate, edit):
-        with self.writing:
+        """Adds an edit to what the file has by now, since other runs may write it, too."""
+        with open(f"{self.file}.lock", "w", encoding="utf-8") as lock:
+            fcntl.flock(lock, fcntl.LOCK_EX)
+            self.read()
             if self.sources.get(crate.name) != self.sum_of_sources(crate):
                 self.sources[crate.name], self.edits[crate.name] = self.sum_of_sources(crate), set()
             self.edits[crate.name].add(sum_of_edit(edit))
@@ -33,7 +39,7 @@ class Tried:
 
     def sum_of_sources(self, crate):
         if crate.name not in self.seen:
-            total = hashlib.sha256()
+            total = hashlib.sha256(self.logic.encode())
             for path in self.files_of(crate):
                 with open(path, "rb") as it:
                     total.update(repr((os.path.relpath(path, crate.folder), it.read())).encode())
