@@ -15,4 +15,5 @@ mod SpelledKeys
 mod SpelledLists
 mod Stopped
 mod ToldLines
+mod Words
 pub mod Zips

@@ -1,5 +1,6 @@
 -- A script that comes line by line, and what each of its records is.
 use Rattle.std.specs.Prelude.{◌≡◌, ◌==◌, ℕ, List, [], ◌∷◌, ◌++◌, string_bytes, if◌then◌else◌}
+use Rattle.csv.specs.Records.{AllText}
 use Rattle.script.specs.Explanations.{IsUnknown, Tells}
 use Rattle.script.specs.Records.{records_of}
 use Rattle.script.specs.Scripts.{RecordSpells}
@@ -21,11 +22,15 @@ abbrev pub records_in_lines : List (List ℕ) → List (List (List ℕ))
 records_in_lines [] = []
 records_in_lines (line ∷ lines) = records_of line ++ records_in_lines lines
 
--- a record is told to be the line that it spells, a word that is no command's name, or bad
+-- the record is one field alone, whose text is neither the name of a command nor a remark
+abbrev pub IsWord : List (List ℕ) → Type 0
+IsWord fields = (text : List ℕ) × (fields ≡ text ∷ []) × AllText fields × IsUnknown text
+
+-- a record is told to be the line that it spells, the word that it is, or bad, which no word is
 abbrev pub IsTold : List (List ℕ) → InputRecord → Type 0
 IsTold fields (Good line) = RecordSpells fields line
-IsTold fields (Word text) = (fields ≡ string_bytes text ∷ []) × IsUnknown (string_bytes text)
-IsTold fields (Bad explanation) = Tells [] (fields ∷ []) explanation
+IsTold fields (Word text) = (fields ≡ string_bytes text ∷ []) × IsWord fields
+IsTold fields (Bad explanation) = Tells [] (fields ∷ []) explanation × ¬ (IsWord fields)
 
 -- the first of the records is told so, and the others stay
 abbrev pub TellsNext : List (List (List ℕ)) → List (List (List ℕ)) → InputRecord → Type 0

@@ -68,7 +68,8 @@ fn tell_text(alloc: Global, record: &StringRecord) -> Result<InputRecord, Script
 
 /// Tells what is wrong with a record, unless it is a word.
 fn tell_misfit(alloc: Global, record: &StringRecord) -> Result<InputRecord, ScriptError>
-    requires { ¬ (HasShape (fields_of «record».now)) }
+    requires text { AllText (fields_of «record».now) }
+    requires shape { ¬ (HasShape (fields_of «record».now)) }
     ensures told { IfOk result (IsTold (fields_of «record».now)) }
     ensures memory { IfErr result (λ error. error ≡ ScriptError.NoMemory) }
 {
