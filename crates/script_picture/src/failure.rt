@@ -1,7 +1,7 @@
 use keybytes::Fault;
 use picture::PictureError;
 use std::alloc::{AllocError, AllocFailed};
-use std::{fmt, io};
+use std::fmt;
 use thiserror::Error;
 
 /// Why there is no picture of a script.
@@ -11,8 +11,9 @@ pub enum Failure {
     Picture(PictureError),
     #[error("no memory")]
     NoMemory,
-    #[error("the picture can't be written")]
-    CannotWrite,
+    /// The table refuses to tell what the picture asks.
+    #[error("{0}")]
+    Table(Fault),
 }
 
 impl From<PictureError> for Failure {
@@ -33,16 +34,12 @@ impl<T: Drop> From<AllocFailed<T>> for Failure {
     }
 }
 
-/// Whatever refuses what the picture asks of the table is want of memory: it asks only for what is there.
 impl From<Fault> for Failure {
-    fn from(_fault: Fault) -> Failure {
-        Failure::NoMemory
-    }
-}
-
-impl From<io::Error> for Failure {
-    fn from(_error: io::Error) -> Failure {
-        Failure::CannotWrite
+    fn from(fault: Fault) -> Failure {
+        match fault {
+            Fault::Memory => Failure::NoMemory,
+            _ => Failure::Table(fault),
+        }
     }
 }
 
