@@ -1,7 +1,7 @@
 use keybytes::Fault;
 use picture::PictureError;
 use std::alloc::{AllocError, AllocFailed};
-use std::fmt;
+use std::{fmt, io};
 use thiserror::Error;
 
 /// Why there is no picture of a script.
@@ -14,6 +14,8 @@ pub enum Failure {
     /// The table refuses to tell what the picture asks.
     #[error("{0}")]
     Table(Fault),
+    #[error("the picture can't be written")]
+    CannotWrite,
 }
 
 impl From<PictureError> for Failure {
@@ -40,6 +42,12 @@ impl From<Fault> for Failure {
             Fault::Memory => Failure::NoMemory,
             _ => Failure::Table(fault),
         }
+    }
+}
+
+impl From<io::Error> for Failure {
+    fn from(_error: io::Error) -> Failure {
+        Failure::CannotWrite
     }
 }
 
