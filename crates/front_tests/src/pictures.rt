@@ -3,8 +3,9 @@
 mod drawn;
 mod well_formed;
 
-use crate::pictures::drawn::Drawn;
+use crate::pictures::drawn::{Drawn, status_in};
 use crate::pictures::well_formed::is_well_formed;
+use crate::room::Room;
 use std::alloc::{AllocError, Global};
 use std::test::Fail;
 
@@ -107,7 +108,7 @@ switch
         script: b"table,9,text
 row,\"=<&\"\">'\"
 row,\"=a\tb\x01\xc2\x85\xef\xbf\xbf\"
-row,=\xd7\xa2\xd7\x91\xe2\x80\xae
+row,=\xd7\xa2\xd7\x91\xe2\x80\xae\xe2\x80\xa8
 row,=0123456789012345678901234567890123456789
 ",
         status: 0,
@@ -116,7 +117,7 @@ row,=0123456789012345678901234567890123456789
             "<title>row,=&lt;&amp;&quot;&gt;&apos;</title>",
             ">0.0 = =&lt;&amp;&quot;&gt;&apos;</text>",
             ">0.1 = =a\u{2409}b\u{fffd}\u{fffd}\u{fffd}</text>",
-            ">0.2 = =\u{5e2}\u{5d1}\u{fffd}</text>",
+            ">0.2 = =\u{5e2}\u{5d1}\u{fffd}\u{fffd}</text>",
             "<title>row,=0123456789012345678901234567890123456789</title>",
             ">row,=01234567890123456789012345678901\u{2026}</text>",
         ],
@@ -192,6 +193,14 @@ fn first_drawn(alloc: Global) -> Option<&'static str> {
 
 fn says(drawn: &Drawn, said: &str) -> bool {
     drawn.status() == 2 && drawn.out().is_empty() && drawn.err() == said.as_bytes()
+}
+
+#[test]
+fn a_picture_that_cannot_be_written_is_told_by_the_status(rt: HostRuntime) {
+    for left in [0, 100] {
+        let room = Room::new(Vec::new(rt.alloc()), left);
+        assert_eq!(rt; status_in(rt.alloc(), room), 2);
+    }
 }
 
 #[test]

@@ -6,11 +6,11 @@ use Rattle.std.specs.List.{flat_map}
 abbrev pub is_from : ℕ → ℕ → ℕ → Bool
 is_from first last character = nat_le first character && nat_le character last
 
--- whether it is a control character, turns the direction of the text, or is none that XML has
+-- whether it is a control character, ends a line, turns the direction of the text, or is none that XML has
 abbrev pub is_hidden : ℕ → Bool
 is_hidden character =
     is_from 0x0 0x1f character || is_from 0x7f 0x9f character || is_from 0xfffe 0xffff character
-    || (character == 0x61c) || is_from 0x200e 0x200f character || is_from 0x202a 0x202e character || is_from 0x2066 0x2069 character
+    || (character == 0x61c) || is_from 0x200e 0x200f character || is_from 0x2028 0x202e character || is_from 0x2066 0x2069 character
 
 -- whether it is a tab or ends a line
 abbrev pub is_blank : ℕ → Bool

@@ -296,7 +296,7 @@ fn draw_gain(
 ) -> Result<(), PictureError> {
     let class = match gain.kind {
         GainKind::Ready => "box",
-        GainKind::Shared | GainKind::GivenUp => "bad",
+        GainKind::Shared => "bad",
     };
     let width = width_of(layout.gain_columns) + MARGIN;
     pen.rect(class, place, Size { width, height })?;

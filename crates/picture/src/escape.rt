@@ -28,7 +28,7 @@ fn push_character(out: &mut String, character: char) -> Result<(), AllocError>
     }
 }
 
-/// What is shown of a character: itself, or a sign in its place where it is a control character, turns the direction of the text, or is none
+/// What is shown of a character: itself, or a sign in its place where it is a control character, ends a line, turns the direction of the text, or is none
 /// that XML has.
 pub fn shown_of(character: char) -> char
     ensures { result ≡ shown character }
@@ -39,7 +39,7 @@ pub fn shown_of(character: char) -> char
         '\r' => '\u{240d}',
         '\u{0}'..='\u{1f}' | '\u{7f}'..='\u{9f}' | '\u{fffe}'..='\u{ffff}' => '\u{fffd}',
         '\u{61c}' | '\u{200e}'..='\u{200f}' => '\u{fffd}',
-        '\u{202a}'..='\u{202e}' | '\u{2066}'..='\u{2069}' => '\u{fffd}',
+        '\u{2028}'..='\u{202e}' | '\u{2066}'..='\u{2069}' => '\u{fffd}',
         _ => character,
     }
 }

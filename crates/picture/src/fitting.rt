@@ -32,7 +32,7 @@ pub fn cut_to(alloc: Global, text: &str, columns: usize) -> Result<Fitted, Alloc
 fn push_beginning(out: &mut String, text: &str, columns: usize) -> Result<(), AllocError> {
     let mut taken = 1;
     for character in text.chars() {
-        taken = width_of(character).saturating_add(taken);
+        taken = columns_of_character(character).saturating_add(taken);
         if taken > columns {
             break;
         }
@@ -45,12 +45,12 @@ fn push_beginning(out: &mut String, text: &str, columns: usize) -> Result<(), Al
 pub fn columns_of(text: &str) -> usize {
     let mut columns = 0usize;
     for character in text.chars() {
-        columns = columns.saturating_add(width_of(character));
+        columns = columns.saturating_add(columns_of_character(character));
     }
     columns
 }
 
 /// How many columns a character takes.
-fn width_of(character: char) -> usize {
+fn columns_of_character(character: char) -> usize {
     shown_of(character).width().unwrap_or(1)
 }

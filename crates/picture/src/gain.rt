@@ -12,5 +12,4 @@ pub struct Gain {
 pub enum GainKind {
     Ready,
     Shared,
-    GivenUp,
 }

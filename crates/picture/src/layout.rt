@@ -29,8 +29,6 @@ pub const NAMES: u32 = 22;
 pub struct Layout {
     /// From the left: the lanes.
     pub lanes: Stack,
-    /// The columns of text in each lane.
-    pub lane_columns: Vec<usize>,
     /// From the top: the rows.
     pub rows: Stack,
     pub record_columns: usize,
@@ -100,7 +98,6 @@ impl Layout {
         let height = bottom.saturating_add(MARGIN);
         Ok(Layout {
             lanes,
-            lane_columns,
             rows,
             record_columns,
             names,

@@ -13,12 +13,13 @@ const ENTRY_COLUMNS: usize = 30;
 pub const LEAST_WIDTH: u32 = MARGIN + 3 * ENTRY + MARGIN;
 
 /// The shapes, and what each of them means.
-const ENTRIES: [(&str, &str); 12] = [
+const ENTRIES: [(&str, &str); 13] = [
     ("ahead", "a write ahead of the scan"),
     ("behind", "a write behind the scan"),
     ("no-build", "a write while no build runs"),
     ("undo-ahead", "an undo ahead of the scan"),
     ("undo-behind", "an undo behind the scan"),
+    ("undo-no-build", "an undo while no build runs"),
     ("pages", "pages copied | not yet"),
     ("insert", "side-file: puts a pair in"),
     ("delete", "side-file: takes a pair out"),

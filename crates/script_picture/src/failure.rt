@@ -11,6 +11,9 @@ pub enum Failure {
     Picture(PictureError),
     #[error("no memory")]
     NoMemory,
+    /// The table refuses to tell what the picture asks.
+    #[error("{0}")]
+    Table(Fault),
     #[error("the picture can't be written")]
     CannotWrite,
 }
@@ -33,10 +36,12 @@ impl<T: Drop> From<AllocFailed<T>> for Failure {
     }
 }
 
-/// Whatever refuses what the picture asks of the table is want of memory: it asks only for what is there.
 impl From<Fault> for Failure {
-    fn from(_fault: Fault) -> Failure {
-        Failure::NoMemory
+    fn from(fault: Fault) -> Failure {
+        match fault {
+            Fault::Memory => Failure::NoMemory,
+            _ => Failure::Table(fault),
+        }
     }
 }
 

@@ -8,6 +8,7 @@ mod deed;
 mod failure;
 mod gains;
 mod lanes;
+mod lasting;
 mod record_text;
 mod records;
 mod run;
@@ -16,7 +17,6 @@ mod sight;
 mod story;
 mod teller;
 mod telling;
-mod threads;
 mod txn_lane;
 mod words;
 

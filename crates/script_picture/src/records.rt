@@ -2,30 +2,28 @@
 
 use crate::failure::Failure;
 use crate::record_text::RecordText;
-use csv::{Reader, ReaderBuilder, StringRecord};
+use csv::StringRecord;
+use script::Records;
 use std::alloc::Global;
 
 /// The records of a text that aren't passed over, each with the remarks before it.
 pub fn record_texts(alloc: Global, text: &[u8]) -> Result<Vec<RecordText>, Failure> {
-    let mut reader = ReaderBuilder::new()
-        .has_headers(false)
-        .flexible(true)
-        .from_reader(alloc, text);
+    let mut records = Records::new(alloc, text);
     let mut fields = StringRecord::new(alloc);
     let mut texts = Vec::new(alloc);
-    read_all(alloc, &mut reader, &mut fields, &mut texts)?;
+    read_all(alloc, &mut records, &mut fields, &mut texts)?;
     Ok(texts)
 }
 
 fn read_all(
     alloc: Global,
-    reader: &mut Reader<&[u8]>,
+    records: &mut Records<'_>,
     fields: &mut StringRecord,
     texts: &mut Vec<RecordText>,
 ) -> Result<(), Failure> {
     let mut remarks = Vec::new(alloc);
     for number in 1..usize::MAX {
-        if !read_next(reader, fields)? {
+        if !read_next(records, fields)? {
             break;
         }
         take(alloc, number, fields, &mut remarks, texts)?;
@@ -34,8 +32,8 @@ fn read_all(
 }
 
 /// Whether there is another record, which is then read.
-fn read_next(reader: &mut Reader<&[u8]>, fields: &mut StringRecord) -> Result<bool, Failure> {
-    match reader.read_record(fields) {
+fn read_next(records: &mut Records<'_>, fields: &mut StringRecord) -> Result<bool, Failure> {
+    match records.read(fields) {
         Ok(found) => Ok(found),
         Err(_) => Err(Failure::NoMemory),
     }

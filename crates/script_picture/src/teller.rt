@@ -4,10 +4,10 @@ ghost use Rattle.script_picture.specs.Sights.{side_seen};
 use crate::deed::Deed;
 use crate::failure::Failure;
 use crate::lanes::Lanes;
+use crate::lasting::Lasting;
 use crate::record_text::RecordText;
 use crate::sides::{counts, mark_added};
 use crate::sight::Sight;
-use crate::threads::Threads;
 use crate::words::refusal;
 use builder_core::{Core, Table};
 use keybytes::{Fault, Rid};
@@ -24,7 +24,7 @@ pub struct Teller {
     pub(crate) alloc: Global,
     pub(crate) lanes: Lanes,
     texts: Vec<RecordText>,
-    pub(crate) threads: Threads,
+    pub(crate) lasting: Lasting,
     pub(crate) gains: Vec<Gain>,
     /// What is known of the build that runs.
     pub(crate) sight: Option<Sight>,
@@ -37,12 +37,12 @@ pub struct Teller {
 impl Teller {
     /// Nothing was told yet of these records.
     pub fn new(alloc: Global, lanes: Lanes, texts: Vec<RecordText>) -> Result<Teller, Failure> {
-        let threads = Threads::new(alloc, lanes.len())?;
+        let lasting = Lasting::new(alloc, lanes.len())?;
         Ok(Teller {
             alloc,
             lanes,
             texts,
-            threads,
+            lasting,
             gains: Vec::new(alloc),
             sight: None,
             sides: Vec::new(alloc),
@@ -80,7 +80,7 @@ impl Teller {
         let mut row = self.next_row()?;
         self.tell(core, deed, answer, &mut row)?;
         self.mark_entries(core, &mut row.marks)?;
-        self.threads.grow(self.row);
+        self.lasting.grow(self.row);
         self.row = self.row.saturating_add(1);
         Ok(row)
     }
@@ -93,7 +93,7 @@ impl Teller {
             alloc,
             lanes,
             texts: _,
-            threads,
+            lasting,
             gains,
             sight: _,
             sides: _,
@@ -105,7 +105,7 @@ impl Teller {
             title,
             lanes,
             rows,
-            spans: threads.into_spans(),
+            spans: lasting.into_spans(),
             gains,
         })
     }

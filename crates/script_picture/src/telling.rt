@@ -92,7 +92,7 @@ impl Teller {
             self.mark(row, lane, MarkKind::Undo(self.side(rid)), text)?;
         }
         if left == 0 {
-            self.threads.end(lane, self.row);
+            self.lasting.end(lane, self.row);
             let text = String::from_str(self.alloc, "ends")?;
             self.mark(row, lane, MarkKind::Note, text)?;
         }
@@ -110,7 +110,7 @@ impl Teller {
             Deed::Begin { txn } => self.tell_begin(*txn, number, row),
             Deed::Commit { txn } => {
                 let lane = self.lanes.of_txn(*txn);
-                self.threads.end(lane, self.row);
+                self.lasting.end(lane, self.row);
                 self.mark(
                     row,
                     lane,
@@ -161,7 +161,7 @@ impl Teller {
 
     fn tell_begin(&mut self, txn: usize, number: u64, row: &mut Row) -> Result<(), Failure> {
         let lane = self.lanes.of_txn(txn);
-        self.threads.begin(lane, self.row, SpanKind::Txn)?;
+        self.lasting.begin(lane, self.row, SpanKind::Txn)?;
         if let Some(txn) = self.lanes.txns.get_mut(txn) {
             txn.writes.clear();
         }
@@ -189,7 +189,7 @@ impl Teller {
         }
         for index in 0..indexes {
             let lane = self.lanes.of_index(index);
-            self.threads.begin(lane, self.row, SpanKind::Build)?;
+            self.lasting.begin(lane, self.row, SpanKind::Build)?;
             let text = self.field(index.saturating_add(4))?;
             self.mark(row, lane, MarkKind::Note, text)?;
         }
@@ -218,7 +218,7 @@ impl Teller {
             let last = end - 1;
             format!(in self.alloc; "pages {first}-{last}")?
         };
-        self.threads.begin(range, self.row, sight.progress(range))?;
+        self.lasting.begin(range, self.row, sight.progress(range))?;
         self.mark(row, range, MarkKind::Note, text)
     }
 
@@ -229,7 +229,7 @@ impl Teller {
         };
         sight.copy(range);
         let progress = sight.progress(range);
-        self.threads.begin(range, self.row, progress)?;
+        self.lasting.begin(range, self.row, progress)?;
         let text = format!(in self.alloc; "page {page} copied")?;
         self.mark(row, range, MarkKind::Note, text)
     }
@@ -282,14 +282,14 @@ impl Teller {
                 self.mark(row, lane, MarkKind::Ready, text)?;
                 let gain = gains::ready(self.alloc, core, self.row, index, *number)?;
                 self.gains.push(gain)?;
-                self.threads.begin(lane, self.row, SpanKind::Ready)
+                self.lasting.begin(lane, self.row, SpanKind::Ready)
             }
             Outcome::Shared { .. } => {
                 let text = String::from_str(self.alloc, "two rows share a key")?;
                 self.mark(row, lane, MarkKind::Shared, text)?;
                 let gain = gains::shared(self.alloc, self.row, index, shared)?;
                 self.gains.push(gain)?;
-                self.threads.stop(lane);
+                self.lasting.stop(lane);
                 Ok(())
             }
         }
@@ -301,7 +301,7 @@ impl Teller {
         self.stop_ranges();
         for index in 0..self.sides.len() {
             let lane = self.lanes.of_index(index);
-            self.threads.stop(lane);
+            self.lasting.stop(lane);
             let text = String::from_str(self.alloc, "given up")?;
             self.mark(row, lane, MarkKind::Note, text)?;
         }
@@ -311,7 +311,7 @@ impl Teller {
 
     fn stop_ranges(&mut self) {
         for range in 0..self.lanes.ranges {
-            self.threads.stop(range);
+            self.lasting.stop(range);
         }
     }
 }

@@ -1,6 +1,6 @@
 use script_picture::picture;
 use std::alloc::Global;
-use std::io::Read;
+use std::io::{Read, Write};
 use std::str;
 
 /// What was written of a script, and the exit status.
@@ -56,6 +56,12 @@ impl Drawn {
             Err(_) => false,
         }
     }
+}
+
+/// The status where the picture of a table alone goes to that writer.
+pub fn status_in<W: Write + Drop>(alloc: Global, out: W) -> u8 {
+    let script: &[u8] = b"table,1,int\n";
+    picture(alloc, "a script", script, out, Vec::new(alloc))
 }
 
 /// Whether these stand in the text, one behind the other.

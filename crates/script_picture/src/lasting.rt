@@ -4,19 +4,19 @@ use std::alloc::Global;
 
 /// What lasts in the lanes: of each lane one span at most grows from row to row.
 #[derive(Drop)]
-pub struct Threads {
+pub struct Lasting {
     spans: Vec<Span>,
     growing: Vec<Option<usize>>,
 }
 
-impl Threads {
+impl Lasting {
     /// So many lanes, in which nothing lasts yet.
-    pub fn new(alloc: Global, lanes: usize) -> Result<Threads, Failure> {
+    pub fn new(alloc: Global, lanes: usize) -> Result<Lasting, Failure> {
         let mut growing = Vec::with_capacity(alloc, lanes)?;
         for _ in 0..lanes {
             growing.push(None)?;
         }
-        Ok(Threads {
+        Ok(Lasting {
             spans: Vec::new(alloc),
             growing,
         })
@@ -68,7 +68,7 @@ impl Threads {
 
     /// All that has lasted.
     pub fn into_spans(self) -> Vec<Span> {
-        let Threads { spans, growing: _ } = self;
+        let Lasting { spans, growing: _ } = self;
         spans
     }
 }
