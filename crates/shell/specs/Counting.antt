@@ -26,21 +26,21 @@ asked_by (command.Seal worker) = Seal worker
 asked_by (command.Load index) = Load index
 asked_by (command.Feed index most) = Feed index
 asked_by (command.Apply index most) = Apply index
-asked_by other = Other
+asked_by _ = Other
 
 -- the worker who was asked
 abbrev pub worker_asked : Asked → Option ℕ
 worker_asked (Scan worker) = Some worker
 worker_asked (Digest worker) = Some worker
 worker_asked (Seal worker) = Some worker
-worker_asked other = None
+worker_asked _ = None
 
 -- the index that a command was about
 abbrev pub index_asked : Asked → Option ℕ
 index_asked (Load index) = Some index
 index_asked (Feed index) = Some index
 index_asked (Apply index) = Some index
-index_asked other = None
+index_asked _ = None
 
 -- so many more, or the most that a count may be
 abbrev pub more : ℕ → ℕ → ℕ
@@ -51,19 +51,19 @@ abbrev pub worker_after : WorkerCounts → Asked → ℕ → WorkerCounts
 worker_after w (Scan worker) number = record w { put = more w.put 1 }
 worker_after w (Digest worker) number = record w { taken = more w.taken number }
 worker_after w (Seal worker) number = record w { taken = more w.taken number; sealed = more w.taken number }
-worker_after w other number = w
+worker_after w _ number = w
 
 -- an index was loaded, or so many more of its entries were fed or applied
 abbrev pub index_after : IndexCounts → Asked → ℕ → IndexCounts
 index_after i (Load index) number = record i { is_loaded = true }
 index_after i (Feed index) number = record i { fed = more i.fed number }
 index_after i (Apply index) number = record i { applied = more i.applied number }
-index_after i other number = i
+index_after i _ number = i
 
 -- a scan copied one page more
 abbrev pub scanned_after : ℕ → Asked → ℕ
 scanned_after scanned (Scan worker) = more scanned 1
-scanned_after scanned other = scanned
+scanned_after scanned _ = scanned
 
 -- what was done for a worker, or for an index, for which nothing was done
 abbrev pub no_worker : WorkerCounts
@@ -107,13 +107,13 @@ abbrev pub may_spoil : Asked → Bool
 may_spoil (Digest worker) = true
 may_spoil (Seal worker) = true
 may_spoil (Load index) = true
-may_spoil other = false
+may_spoil _ = false
 
 -- a refusal for want of room: of a page or of memory
 abbrev pub wants_room : Fault → Bool
 wants_room fault.NoPage = true
 wants_room fault.Memory = true
-wants_room other = false
+wants_room _ = false
 
 -- the first refusal that spoils a build is kept
 abbrev pub spoiled_after : Option Fault → Asked → Fault → Option Fault
@@ -124,7 +124,7 @@ spoiled_after None asked fault = if may_spoil asked && wants_room fault then Som
 abbrev pub build_after : BuildCounts → Asked → Answer → BuildCounts
 build_after build asked (answer.Number number) = further build asked number
 build_after build asked (answer.Refused fault) = record build { spoiled = spoiled_after build.spoiled asked fault }
-build_after build asked other = build
+build_after build asked _ = build
 
 -- the build that runs: it may have started anew, been decided or been given up
 abbrev pub running_after : Option BuildCounts → Asked → Answer → Option BuildCounts
@@ -132,15 +132,15 @@ running_after running (Start workers indexes) (answer.Number number) = Some (new
 running_after running asked (answer.Switched number verdicts pages) = None
 running_after running asked (answer.SomeRefused number verdicts lines pages) = None
 running_after running asked (answer.Abandoned pages) = None
-running_after None asked other = None
-running_after (Some build) asked other = Some (build_after build asked other)
+running_after None asked _ = None
+running_after (Some build) asked answer = Some (build_after build asked answer)
 
 -- of the open transactions one begins, commits, or is undone until nothing of it is left
 abbrev pub transactions_after : ℕ → Asked → Answer → ℕ
 transactions_after before Begin (answer.Number number) = more before 1
 transactions_after before Commit (answer.Number number) = before - 1
 transactions_after before Undo (answer.Undone number left) = if left == 0 then before - 1 else before
-transactions_after before asked other = before
+transactions_after before _ _ = before
 
 -- all counts
 abbrev pub counts_after : Counts → Asked → Answer → Counts
