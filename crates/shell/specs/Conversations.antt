@@ -12,12 +12,15 @@ use Rattle.script.specs.declared.line.Line.TheVariants.{PassedOver, Table as Tab
 use Rattle.script.specs.declared.numbered_command.NumberedCommand.{NumberedCommand}
 use Rattle.script.specs.declared.table.Table.{Table}
 use Rattle.replay.specs.Limits.{table_refusal}
-use Rattle.replay.specs.Sessions.{RunsAll, RunsOn, ScriptState, empty_heap_of, number_of}
+use Rattle.replay.specs.Sessions.{Runs, RunsAll, RunsOn, ScriptState, empty_heap_of, number_of}
+use Rattle.replay.specs.declared.answer.Answer.{Answer}
 use Rattle.replay.specs.declared.status.Status.{Status}
 use Rattle.replay.specs.declared.status.Status.TheVariants.{Done}
+use Rattle.shell.specs.Counting.{asked_by, counts_after}
 use Rattle.shell.specs.Inputs.{AreAllOf, AreFirstOf, Gives, HasGiven, InputValue}
 use Rattle.shell.specs.declared.before_table.BeforeTable.{BeforeTable}
 use Rattle.shell.specs.declared.before_table.BeforeTable.TheVariants.{Waits, Made, Quits}
+use Rattle.shell.specs.declared.counts.Counts.{Counts}
 
 -- the line of a script that a record is; what is none counts as passed over
 abbrev pub line_in : InputRecord → Line
@@ -103,3 +106,10 @@ TalksOn input old new = (told : List InputRecord) × Finishes input told × Runs
 -- the records from that moment on were answered on a table of that heap, and it went so
 abbrev pub EndsOn : InputValue → HeapState → Status → Type 0
 EndsOn input heap status = (told : List InputRecord) × Finishes input told × RunsOn heap (commands_told (input.given + 1) told) status
+
+-- a line is answered on a table, which stood so before and stands so now, and the counts follow the answer
+abbrev pub CountsFollow : Line → ScriptState → Counts → ScriptState → Counts → Type 0
+CountsFollow PassedOver old before new after = after ≡ before
+CountsFollow (TableLine table) old before new after = after ≡ before
+CountsFollow (CommandLine command) old before new after =
+    (given : Answer) × Runs old command given new × (after ≡ counts_after before (asked_by command) given)

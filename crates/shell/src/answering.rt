@@ -1,7 +1,8 @@
 //! The answers to single records.
 ghost use Rattle.std.specs.Prelude.{◌≡◌, [], ◌∷◌, true, false, IfOk, OnOk};
 ghost use Rattle.replay.specs.Sessions.{state_of, Runs, RunsAll};
-ghost use Rattle.shell.specs.Conversations.{ComesBehind, IsQuit, commands_told};
+ghost use Rattle.shell.specs.Conversations.{ComesBehind, CountsFollow, IsQuit, commands_told, line_in};
+ghost use Rattle.shell.specs.Counting.{asked_by, counts_after};
 
 use crate::asked::Asked;
 use crate::before_table::BeforeTable;
@@ -97,6 +98,8 @@ pub fn answer_on_table<T: Table, W: Write + Drop>(
     output: &mut Output<W>,
 ) -> Result<bool, Failed>
     ensures run { OnOk result (RunsAll (state_of bench.old session.old) (commands_told next.number (next.record ∷ [])) (state_of bench.new session.new)) }
+    ensures counts { OnOk result (CountsFollow (line_in next.record)
+        (state_of bench.old session.old) counts.old (state_of bench.new session.new) counts.new) }
     ensures goes_on { result ≡ Ok true → ¬ (IsQuit next.record) }
     ensures quits { result ≡ Ok false → IsQuit next.record }
 {
@@ -134,6 +137,7 @@ fn answer_command<T: Table>(
     command: Command,
 ) -> Answer
     ensures run { Runs (state_of bench.old session.old) command result (state_of bench.new session.new) }
+    ensures counts { counts.new ≡ counts_after counts.old (asked_by command) result }
 {
     let asked = Asked::of(&command);
     let answer = session.run(bench, command);

@@ -1,5 +1,5 @@
 ghost use Rattle.std.specs.Prelude.{◌≡◌};
-ghost use Rattle.shell.specs.Counting.{index_asked, worker_asked};
+ghost use Rattle.shell.specs.Counting.{asked_by, index_asked, may_spoil, scanned_after, worker_asked};
 
 use script::Command;
 
@@ -20,7 +20,9 @@ pub enum Asked {
 }
 
 impl Asked {
-    pub fn of(command: &Command) -> Asked {
+    pub fn of(command: &Command) -> Asked
+        ensures { result ≡ asked_by command.now }
+    {
         match command {
             Command::Begin { .. } => Asked::Begin,
             Command::Undo { .. } => Asked::Undo,
@@ -58,6 +60,26 @@ impl Asked {
         match self {
             Asked::Load { index } | Asked::Feed { index } | Asked::Apply { index } => Some(index),
             _ => None,
+        }
+    }
+
+    /// How many pages were copied once it was done, where so many were before.
+    pub fn scanned(self, before: u64) -> u64
+        ensures { result ≡ scanned_after before self }
+    {
+        match self {
+            Asked::Scan { .. } => before.saturating_add(1),
+            _ => before,
+        }
+    }
+
+    /// Whether the build is spoiled where it was refused for want of room.
+    pub fn may_spoil(self) -> bool
+        ensures { result ≡ may_spoil self }
+    {
+        match self {
+            Asked::Digest { .. } | Asked::Seal { .. } | Asked::Load { .. } => true,
+            _ => false,
         }
     }
 }

@@ -1,4 +1,4 @@
-ghost use Rattle.std.specs.Prelude.{◌≡◌};
+ghost use Rattle.std.specs.Prelude.{◌≡◌, ◌-◌};
 ghost use Rattle.shell.specs.Counting.{index_after};
 
 use crate::asked::Asked;
@@ -21,7 +21,9 @@ impl IndexCounts {
     };
 
     /// How many entries wait in its ring.
-    pub fn in_ring(&self) -> u64 {
+    pub fn in_ring(&self) -> u64
+        ensures { result ≡ self.now.fed - self.now.applied }
+    {
         self.fed.saturating_sub(self.applied)
     }
 

@@ -30,7 +30,7 @@ pub fn report<'a, T: Table>(
         slot_limit: counts.slot_limit,
         pages: heap.pages(),
         records: heap.records(),
-        open: counts.open,
+        open: counts.transactions,
         kinds: heap.schema().kinds(),
     })?;
     match &counts.build {

@@ -1,4 +1,4 @@
-ghost use Rattle.std.specs.Prelude.{◌≡◌};
+ghost use Rattle.std.specs.Prelude.{◌≡◌, ◌-◌};
 ghost use Rattle.shell.specs.Counting.{worker_after};
 
 use crate::asked::Asked;
@@ -22,12 +22,16 @@ impl WorkerCounts {
     };
 
     /// How many copies wait for it.
-    pub fn waiting(&self) -> u64 {
+    pub fn waiting(&self) -> u64
+        ensures { result ≡ self.now.put - self.now.taken }
+    {
         self.put.saturating_sub(self.taken)
     }
 
     /// How many it took since it last sealed.
-    pub fn unsealed(&self) -> u64 {
+    pub fn unsealed(&self) -> u64
+        ensures { result ≡ self.now.taken - self.now.sealed }
+    {
         self.taken.saturating_sub(self.sealed)
     }
 
