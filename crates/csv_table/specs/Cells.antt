@@ -1,5 +1,5 @@
 -- What a field of a file is in a table.
-use Rattle.std.specs.Prelude.{◌≡◌, ◌⊎◌, ℕ, List, [], IsUtf8, codes, if◌then◌else◌}
+use Rattle.std.specs.Prelude.{◌≡◌, ◌≢◌, ◌⊎◌, ℕ, List, [], IsUtf8, codes, if◌then◌else◌}
 use Rattle.keybytes.specs.Cells.{IsCell}
 use Rattle.keybytes.specs.declared.cell.Cell.{Cell}
 use Rattle.keybytes.specs.declared.cell.Cell.TheVariants.{Null, Int, Text, Flag}
@@ -12,7 +12,7 @@ use Rattle.std.specs.Str.Parse.{IsNumeral, signed_digits_value, without_leading_
 abbrev pub ReadsAs : Kind → List ℕ → Cell → Type 0
 ReadsAs kind field Null = field ≡ []
 ReadsAs kind field (Int number) = (kind ≡ IntKind) × IsNumeral 10 (without_leading_sign field) × (number ≡ signed_digits_value 10 field)
-ReadsAs kind field (Text bytes) = (kind ≡ TextKind) × (field ≡ bytes)
+ReadsAs kind field (Text bytes) = (kind ≡ TextKind) × (field ≢ []) × (field ≡ bytes)
 ReadsAs kind field (Flag flag) = (kind ≡ FlagKind) × (field ≡ (if flag then codes "true" else codes "false"))
 
 -- the field isn't UTF-8, or is read as no cell that a row may hold

@@ -6,15 +6,15 @@ use Rattle.csv_table.specs.declared.failure.Failure.{Failure}
 use Rattle.csv_table.specs.declared.failure.Failure.TheVariants.{CannotRead, CannotPrint, Refused, KeyCell, Row, Table, NotReady}
 use Rattle.csv_table.specs.declared.refusal.Refusal.{Refusal}
 
--- the failure tells that refusal of that text, unless there was no memory to tell it
-abbrev pub Tells : Refusal → List ℕ → Failure → Type 0
-Tells refusal text (Refused told named) = (told ≡ refusal) × (string_bytes named ≡ text)
-Tells refusal text (Table fault) = fault ≡ Memory
-Tells refusal text (CannotRead error) = ⊥
-Tells refusal text CannotPrint = ⊥
-Tells refusal text (KeyCell fault key column) = ⊥
-Tells refusal text (Row line row column) = ⊥
-Tells refusal text NotReady = ⊥
+-- the failure names that refusal and its text, unless there was no memory to tell it
+abbrev pub NamesRefusal : Refusal → List ℕ → Failure → Type 0
+NamesRefusal refusal text (Refused told named) = (told ≡ refusal) × (string_bytes named ≡ text)
+NamesRefusal refusal text (Table fault) = fault ≡ Memory
+NamesRefusal refusal text (CannotRead error) = ⊥
+NamesRefusal refusal text CannotPrint = ⊥
+NamesRefusal refusal text (KeyCell fault key column) = ⊥
+NamesRefusal refusal text (Row line row column) = ⊥
+NamesRefusal refusal text NotReady = ⊥
 
 -- there was no memory
 abbrev pub LacksMemory : Failure → Type 0

@@ -1,5 +1,5 @@
 -- How a table is filled from the records of a text.
-use Rattle.std.specs.Prelude.{◌≡◌, ◌≢◌, ◌⊎◌, ◌+◌, ℕ, List, [], ◌∷◌, length, Option, None, Some}
+use Rattle.std.specs.Prelude.{◌≡◌, ◌≢◌, ◌⊎◌, ◌+◌, ℕ, Bool, false, List, [], ◌∷◌, length, Option, None, Some}
 use Rattle.std.specs.List.{AllZip, Any}
 use Rattle.csv.specs.Records.{field_at}
 use Rattle.heap_table.specs.HeapState.{HeapState, empty_heap, insert_place}
@@ -84,6 +84,10 @@ pub record IsRowPut (width : ℕ) (sources : List Source) (fields : List (List �
   pub put : IsPutIn before.heap.state row after.heap.state
   pub counted : after.rows ≡ before.rows + 1
   pub left_out : after.left_out ≡ before.left_out
+
+-- records are left out only where the bad ones are to be skipped
+abbrev pub LeavesOutIf : Bool → Filled → Type 0
+LeavesOutIf skips_bad filled = skips_bad ≡ false → filled.left_out ≡ 0
 
 -- a record was taken, one way or the other
 abbrev pub TakesRecord : ℕ → List Source → List (List ℕ) → Filled → Filled → Type 0

@@ -3,7 +3,7 @@ use Rattle.std.specs.Prelude.{◌≡◌, ◌≢◌, ◌⊎◌, ◌<◌, ◌≤�
 use Rattle.std.specs.List.{AllZip}
 use Rattle.std.specs.String.{string_bytes}
 use Rattle.csv.specs.Records.{field_at}
-use Rattle.csv_table.specs.Failures.{Tells}
+use Rattle.csv_table.specs.Failures.{NamesRefusal}
 use Rattle.csv_table.specs.declared.column.Column.{Column}
 use Rattle.csv_table.specs.declared.failure.Failure.{Failure}
 use Rattle.csv_table.specs.declared.refusal.Refusal.TheVariants.{Missing, Twice}
@@ -44,4 +44,4 @@ AreFound header columns sources = AllZip (IsSourceOf header) columns sources
 -- why a name has no place: it stands nowhere in the header, or at two places
 abbrev pub IsNotFound : List (List ℕ) → List ℕ → Failure → Type 0
 IsNotFound header name failure =
-    (Tells Missing name failure × ((place : ℕ) → field_at header place ≢ Some name)) ⊎ (Tells Twice name failure × StandsTwice header name)
+    (NamesRefusal Missing name failure × ((place : ℕ) → field_at header place ≢ Some name)) ⊎ (NamesRefusal Twice name failure × StandsTwice header name)

@@ -1,5 +1,5 @@
 ghost use Rattle.std.specs.Prelude.{◌≤◌};
-ghost use Rattle.csv_table.specs.Failures.{Tells};
+ghost use Rattle.csv_table.specs.Failures.{NamesRefusal};
 
 use crate::bad_row::BadRow;
 use crate::cell_fault::CellFault;
@@ -28,7 +28,7 @@ pub enum Failure {
 impl Failure {
     /// The refusal of a text.
     pub fn refused(alloc: Global, refusal: Refusal, text: &str) -> Failure
-        ensures { Tells refusal text.now result }
+        ensures { NamesRefusal refusal text.now result }
     {
         match String::from_str(alloc, text) {
             Ok(text) => Failure::Refused(refusal, text),

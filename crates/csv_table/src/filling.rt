@@ -4,7 +4,7 @@ ghost use Rattle.csv.specs.Records.{field_at, fields_of};
 ghost use Rattle.heap_table.specs.Pages.{KeepsRows};
 ghost use Rattle.csv_table.specs.BadRows.{IsOfRecord};
 ghost use Rattle.csv_table.specs.Cells.{IsNoCell};
-ghost use Rattle.csv_table.specs.Fillings.{AreTaken, IsCellAt, IsFilledFrom, IsLeftOut, IsNoRow, IsPutIn, IsTakenIn, SpellsRow, TakesRecord, field_or_empty};
+ghost use Rattle.csv_table.specs.Fillings.{AreTaken, IsCellAt, IsFilledFrom, IsLeftOut, IsNoRow, IsPutIn, IsTakenIn, LeavesOutIf, SpellsRow, TakesRecord, field_or_empty};
 
 use crate::bad_row::BadRow;
 use crate::cell_fault::CellFault;
@@ -54,7 +54,8 @@ pub fn fill<V: Watch>(
     text: &[u8],
     watch: &mut V,
 ) -> Result<Filled, Failure>
-    ensures { IfOk result (IsFilledFrom schema reading.entry.columns.now text.now) }
+    ensures taken { IfOk result (IsFilledFrom schema reading.entry.columns.now text.now) }
+    ensures skipped { IfOk result (LeavesOutIf reading.entry.skips_bad) }
 {
     let alloc = reading.alloc;
     let mut filled = Filled {
@@ -78,7 +79,8 @@ fn read_all<V: Watch>(
 ) -> Result<(), Failure>
     requires rows { filled.old.rows ≡ 0 }
     requires left_out { filled.old.left_out ≡ 0 }
-    ensures { OnOk result (IsTakenIn reading.entry.columns.now text.now filled.old.heap.state filled.new) }
+    ensures taken { OnOk result (IsTakenIn reading.entry.columns.now text.now filled.old.heap.state filled.new) }
+    ensures skipped { OnOk result (LeavesOutIf reading.entry.skips_bad filled.new) }
 {
     let mut records = Records::new(reading.alloc, text);
     let mut record = ByteRecord::new(reading.alloc);
@@ -113,7 +115,8 @@ fn read_rows<V: Watch>(
 ) -> Result<(), Failure>
     requires rows { filled.old.rows ≡ 0 }
     requires left_out { filled.old.left_out ≡ 0 }
-    ensures { OnOk result (AreTaken layout.now.width layout.now.sources.items records.old filled.old.heap.state filled.new) }
+    ensures taken { OnOk result (AreTaken layout.now.width layout.now.sources.items records.old filled.old.heap.state filled.new) }
+    ensures skipped { OnOk result (LeavesOutIf reading.entry.skips_bad filled.new) }
 {
     let mut txn = begin(&mut filled.heap)?;
     for number in 0..u64::MAX {
@@ -177,7 +180,8 @@ fn take(
     filled: &mut Filled,
 ) -> Result<(), Failure>
     requires { filled.old.rows + filled.old.left_out < 2 ^ 64 - 1 }
-    ensures { OnOk result (TakesRecord layout.now.width layout.now.sources.items (fields_of «record».now) filled.old filled.new) }
+    ensures taken { OnOk result (TakesRecord layout.now.width layout.now.sources.items (fields_of «record».now) filled.old filled.new) }
+    ensures skipped { OnOk result (reading.entry.skips_bad ≡ false → filled.new.left_out ≡ filled.old.left_out) }
 {
     match read_row(reading, layout, record) {
         Ok(row) => put(reading.alloc, row, line, txn, filled),
@@ -194,6 +198,7 @@ fn leave_out(
 ) -> Result<(), Failure>
     requires { filled.old.left_out < 2 ^ 64 - 1 }
     ensures bad { OnOk result (IsOfRecord fault) }
+    ensures skipped { OnOk result (reading.entry.skips_bad ≡ true) }
     ensures left_out { OnOk result (IsLeftOut filled.old filled.new) }
 {
     if reading.skips_bad && fault.is_of_record() {

@@ -22,7 +22,7 @@ impl Lines {
         }
     }
 
-    /// The row at that place came from that line. Pages and slots come in their order.
+    /// The row at that place came from that line. The slots of each page come in order, though a row may go to an earlier page with room.
     pub fn note(&mut self, rid: Rid, line: u64) -> Result<(), Fault> {
         let page = rid.page as usize;
         for _ in self.pages.len()..=page {
