@@ -67,8 +67,8 @@ status
 13,worker,0,1,0
 13,index,0,unloaded,2,0
 13,waits,pages,1
-13,waits,index,0
 13,waits,worker,0
+13,waits,index,0
 14,ok,1
 15,ok,1
 16,ok,9,1
@@ -77,8 +77,8 @@ status
 17,build,load,2,2
 17,worker,0,1,1
 17,index,0,unloaded,3,0
-17,waits,index,0
 17,waits,worker,0
+17,waits,index,0
 18,ok,1
 19,ok,5
 19,table,2,2,9,1,int
@@ -230,14 +230,12 @@ abandon
 3,ok,1
 4,ok,0
 5,refused,51,NoPage
-6,ok,7
+6,ok,5
 6,table,2,1,2,0,int
 6,build,spoiled,1,1
 6,worker,0,1,0
 6,index,0,unloaded,0,0
 6,waits,abandon,51,NoPage
-6,waits,index,0
-6,waits,worker,0
 7,ok
 7,pages,0
 ",

@@ -17,8 +17,8 @@ pub fn no_table<'a>(alloc: Global) -> Result<Vec<StatusLine<'a>>, AllocFailed<St
     Ok(lines)
 }
 
-/// What `status` tells of a table: itself, its build with what a switch waits for, in the order in which it would refuse, and the indexes that
-/// are ready.
+/// What `status` tells of a table: itself, its build with what is to be done before a switch decides, first things first, and the indexes that are
+/// ready.
 pub fn report<'a, T: Table>(
     alloc: Global,
     core: &'a Core<SpoolOfKind, T>,
@@ -103,26 +103,27 @@ fn unfed<T: Table>(core: &Core<SpoolOfKind, T>, index: usize) -> u64 {
     }
 }
 
-/// Adds what a switch waits for.
+/// Adds what a switch waits for: what is to be done before it decides, first things first.
 fn add_waits<'a, T: Table>(
     lines: &mut Vec<StatusLine<'a>>,
     core: &'a Core<SpoolOfKind, T>,
     build: &BuildCounts,
 ) -> Result<(), AllocFailed<StatusLine<'a>>> {
     if let Some(fault) = build.spoiled {
-        lines.push(StatusLine::Waits(Wait::Spoiled(fault)))?;
+        // Nothing else helps a spoiled build.
+        return lines.push(StatusLine::Waits(Wait::Spoiled(fault)));
     }
     if build.unscanned() > 0 {
         lines.push(StatusLine::Waits(Wait::Pages(build.unscanned())))?;
     }
-    for (index, counts) in build.indexes().iter().enumerate() {
-        if !counts.is_loaded {
-            lines.push(StatusLine::Waits(Wait::Index(index)))?;
-        }
-    }
     for (worker, counts) in build.workers().iter().enumerate() {
         if counts.waiting() > 0 || counts.unsealed() > 0 {
             lines.push(StatusLine::Waits(Wait::Worker(worker)))?;
+        }
+    }
+    for (index, counts) in build.indexes().iter().enumerate() {
+        if !counts.is_loaded {
+            lines.push(StatusLine::Waits(Wait::Index(index)))?;
         }
     }
     add_last_waits(lines, core, build)
