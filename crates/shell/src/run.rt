@@ -69,7 +69,7 @@ fn await_table<R: Read + Drop, W: Write + Drop, P: Write + Drop>(
     input: &mut Input<R, P>,
     output: &mut Output<W>,
 ) -> Result<Option<(u32, Parts)>, Failed>
-    ensures { IfOk result (λ made. MatchOption made (EndsBefore input.old) (λ made. MakesTable input.old input.new made.1.heap)) }
+    ensures { IfOk result (λ made. MatchOption made (EndsBefore input.old) (λ made. MakesTable input.old input.new made.0 made.1.heap)) }
 {
     for _ in 0..u64::MAX {
         let Some(next) = input.next()? else {
