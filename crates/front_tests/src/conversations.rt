@@ -125,12 +125,13 @@ get,0.0
 row,\"=a,b
 row,5\rrow,6
 get,0.0
+exit\tabcdefghijklmnopqrstuvwxyzabcdefghi
+exit\tabcdefghijklmnopqrstuvwxyzabcdefghij
 quit
 row,7
 ",
-        answered: "1,bad,\"no record is a table (table,L,KIND,..)\"
-2,bad,\"field 1, \"\"fly\"\", is no command (table, row, begin, insert, update, delete, undo, commit, get, spools, start, scan, \
-digest, seal, load, feed, apply, fence, switch, abandon, side, pairs or rest)\"
+        answered: "1,bad,\"there is no table yet (table,L,KIND,..)\"
+2,bad,\"\"\"fly\"\" is no command and no word (help lists them)\"
 3,ok,1
 3,table,none
 4,bad,\"field 3, \"\"real\"\", is no kind (int, text or flag)\"
@@ -145,7 +146,9 @@ digest, seal, load, feed, apply, fence, switch, abandon, side, pairs or rest)\"
 12,ok,0.0
 13,ok,0.1
 14,ok,5
-15,ok
+15,bad,\"\"\"exit\\tabcdefghijklmnopqrstuvwxyzabcdefghi\"\" is no command and no word (help lists them)\"
+16,bad,\"\"\"exit\\tabcdefghijklmnopqrstuvwxyzabcdefghi..\"\" is no command and no word (help lists them)\"
+17,ok
 ",
         status: 0,
     },
@@ -157,7 +160,7 @@ table,256,int
 table,1,int
 row,5",
         answered: "1,refused,43,BadCount
-2,bad,\"no record is a table (table,L,KIND,..)\"
+2,bad,\"there is no table yet (table,L,KIND,..)\"
 3,refused,43,BadCount
 4,ok
 5,ok,0.0
@@ -250,8 +253,7 @@ help start
         answered: "1,ok,2
 1,help,\"get,RID\",gives the row that is at the RID now
 1,field,2,\"RID (a page and a slot, as 12.3)\"
-2,bad,\"field 1, \"\"help fly\"\", is no command (table, row, begin, insert, update, delete, undo, commit, get, spools, start, scan, \
-digest, seal, load, feed, apply, fence, switch, abandon, side, pairs or rest)\"
+2,bad,\"\"\"help fly\"\" is no command and no word (help lists them)\"
 3,ok,6
 3,help,\"start,W,Q,DEALING,SPEC,..\",\"starts a build with W workers (1 to 16), a quota of Q pages (at most 1024) for each worker and index, \
 1 to 256 page ranges and 1 to 8 indexes\"

@@ -9,6 +9,7 @@ mod answering;
 mod asked;
 mod before_table;
 mod build_counts;
+mod complaint;
 mod counts;
 mod failed;
 mod help;

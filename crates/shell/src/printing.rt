@@ -4,7 +4,6 @@ use crate::wait::Wait;
 use arrayvec::ArrayString;
 use keybytes::Kind;
 use replay::{Output, OutputFailed};
-use script::Explanation;
 use std::fmt::{Display, Write as _};
 use std::io::Write;
 
@@ -22,13 +21,13 @@ pub fn print_text<W: Write + Drop, D: Display>(
 }
 
 /// Says what is wrong with a record.
-pub fn print_bad<W: Write + Drop>(
+pub fn print_bad<W: Write + Drop, D: Display>(
     output: &mut Output<W>,
     number: usize,
-    explanation: &Explanation,
+    wrong: &D,
 ) -> Result<(), OutputFailed> {
     output.fields(number, "bad")?;
-    print_text(output, explanation)?;
+    print_text(output, wrong)?;
     output.end()
 }
 
