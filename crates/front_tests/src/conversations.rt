@@ -1,5 +1,6 @@
 //! Conversations with the shell, each with what is typed, the answers and the exit status.
 
+use crate::broken::Broken;
 use crate::room::Room;
 use shell::shell;
 use std::alloc::Global;
@@ -272,12 +273,13 @@ fn text(bytes: &[u8]) -> &str {
     str::from_utf8(bytes).unwrap_or("(no text)")
 }
 
-/// Whether the answers and the status are those, and no prompt is shown.
+/// Whether the answers and the status are those, and nothing else is said.
 fn is_answered(alloc: Global, conversation: &Conversation) -> bool {
-    let mut out = Vec::new(alloc);
+    let (mut out, mut err) = (Vec::new(alloc), Vec::new(alloc));
     let prompt: Option<Vec<u8>> = None;
-    let status = shell(alloc, conversation.typed.as_bytes(), &mut out, prompt);
-    (text(out.as_slice()), status) == (conversation.answered, conversation.status)
+    let status = shell(alloc, conversation.typed.as_bytes(), &mut out, &mut err, prompt);
+    (text(out.as_slice()), text(err.as_slice()), status)
+        == (conversation.answered, "", conversation.status)
 }
 
 /// The first conversation that is answered otherwise.
@@ -298,8 +300,9 @@ fn each_record_is_answered(rt: HostRuntime) {
 /// How many records `help` gives, of which the first tells how many lines follow, and whether it tells so.
 fn helped(alloc: Global) -> (usize, bool) {
     let mut out = Vec::new(alloc);
+    let err: Vec<u8> = Vec::new(alloc);
     let prompt: Option<Vec<u8>> = None;
-    let _status = shell(alloc, "help\n".as_bytes(), &mut out, prompt);
+    let _status = shell(alloc, "help\n".as_bytes(), &mut out, err, prompt);
     let told = text(out.as_slice());
     (
         told.lines().count(),
@@ -314,9 +317,9 @@ fn help_lists_all(rt: HostRuntime) {
 
 /// Whether a prompt is shown before each line, and before the end.
 fn is_prompted(alloc: Global, typed: &str, shown: &str) -> bool {
-    let out: Vec<u8> = Vec::new(alloc);
+    let (out, err): (Vec<u8>, Vec<u8>) = (Vec::new(alloc), Vec::new(alloc));
     let mut prompt = Vec::new(alloc);
-    let _status = shell(alloc, typed.as_bytes(), out, Some(&mut prompt));
+    let _status = shell(alloc, typed.as_bytes(), out, err, Some(&mut prompt));
     text(prompt.as_slice()) == shown
 }
 
@@ -332,24 +335,42 @@ fn a_prompt_is_shown_before_each_line(rt: HostRuntime) {
     assert!(rt; is_prompted(rt.alloc(), "", "sfbuild> "));
 }
 
-/// The status of a conversation whose answers have so many bytes of room.
-fn status_in(alloc: Global, conversation: &Conversation, room: usize) -> u8 {
+/// The status of a conversation whose answers have so many bytes of room, and whether that is what is said to be wrong.
+fn ended_in(alloc: Global, conversation: &Conversation, room: usize) -> (u8, bool) {
     let out = Room::new(Vec::new(alloc), room);
+    let mut err = Vec::new(alloc);
     let prompt: Option<Vec<u8>> = None;
-    shell(alloc, conversation.typed.as_bytes(), out, prompt)
+    let status = shell(alloc, conversation.typed.as_bytes(), out, &mut err, prompt);
+    let is_told = text(err.as_slice()) == "shell: an answer can't be written\n";
+    (status, is_told)
 }
 
-/// The first room that is too small, and of which the status doesn't tell.
+/// The first room that is too small, and of which nothing is told.
 fn room_untold(alloc: Global, conversation: &Conversation) -> Option<usize> {
-    (0..conversation.answered.len()).find(|room| status_in(alloc, conversation, *room) != 2)
+    (0..conversation.answered.len())
+        .find(|room| ended_in(alloc, conversation, *room) != (2, true))
 }
 
 #[test]
-fn a_writer_that_fails_is_told_by_the_status(rt: HostRuntime) {
+fn a_writer_that_fails_is_told(rt: HostRuntime) {
     let conversation = &CONVERSATIONS[4];
     assert_eq!(rt; room_untold(rt.alloc(), conversation), None);
     assert_eq!(rt;
-        status_in(rt.alloc(), conversation, conversation.answered.len()),
-        1
+        ended_in(rt.alloc(), conversation, conversation.answered.len()),
+        (1, false)
     );
+}
+
+/// Whether it is told that the input can't be read behind so many calls.
+fn is_told_unread(alloc: Global, well: usize) -> bool {
+    let (out, mut err): (Vec<u8>, Vec<u8>) = (Vec::new(alloc), Vec::new(alloc));
+    let prompt: Option<Vec<u8>> = None;
+    let status = shell(alloc, Broken::new(well), out, &mut err, prompt);
+    (text(err.as_slice()), status) == ("shell: cannot be read\n", 2)
+}
+
+#[test]
+fn a_reader_that_fails_is_told(rt: HostRuntime) {
+    assert!(rt; is_told_unread(rt.alloc(), 0));
+    assert!(rt; is_told_unread(rt.alloc(), 2));
 }
