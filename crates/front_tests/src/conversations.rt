@@ -277,7 +277,13 @@ fn text(bytes: &[u8]) -> &str {
 fn is_answered(alloc: Global, conversation: &Conversation) -> bool {
     let (mut out, mut err) = (Vec::new(alloc), Vec::new(alloc));
     let prompt: Option<Vec<u8>> = None;
-    let status = shell(alloc, conversation.typed.as_bytes(), &mut out, &mut err, prompt);
+    let status = shell(
+        alloc,
+        conversation.typed.as_bytes(),
+        &mut out,
+        &mut err,
+        prompt,
+    );
     (text(out.as_slice()), text(err.as_slice()), status)
         == (conversation.answered, "", conversation.status)
 }
@@ -347,8 +353,7 @@ fn ended_in(alloc: Global, conversation: &Conversation, room: usize) -> (u8, boo
 
 /// The first room that is too small, and of which nothing is told.
 fn room_untold(alloc: Global, conversation: &Conversation) -> Option<usize> {
-    (0..conversation.answered.len())
-        .find(|room| ended_in(alloc, conversation, *room) != (2, true))
+    (0..conversation.answered.len()).find(|room| ended_in(alloc, conversation, *room) != (2, true))
 }
 
 #[test]

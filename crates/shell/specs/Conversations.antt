@@ -17,7 +17,7 @@ use Rattle.replay.specs.declared.status.Status.{Status}
 use Rattle.replay.specs.declared.status.Status.TheVariants.{Done}
 use Rattle.shell.specs.Inputs.{AreAllOf, AreFirstOf, Gives, HasGiven, InputValue}
 use Rattle.shell.specs.declared.before_table.BeforeTable.{BeforeTable}
-use Rattle.shell.specs.declared.before_table.BeforeTable.TheVariants.{Waits, Made, Quits}
+use Rattle.shell.specs.declared.before_table.BeforeTable.TheVariants.{NoTable, Made, Quits}
 
 -- the line of a script that a record is; what is none counts as passed over
 abbrev pub line_in : InputRecord → Line
@@ -79,7 +79,7 @@ EndsFrom input status = (told : List InputRecord) × Finishes input told × Ends
 
 -- what comes behind a record while there is no table
 abbrev pub ComesBehind : InputRecord → BeforeTable → Type 0
-ComesBehind one Waits = MakesNone one × ¬ (IsQuit one)
+ComesBehind one NoTable = MakesNone one × ¬ (IsQuit one)
 ComesBehind one (Made slot_limit parts) =
     (table : Table) × (one ≡ Good (TableLine table)) × (table_refusal table ≡ None) × (parts.heap ≡ empty_heap_of table)
     × (slot_limit ≡ table.slot_limit)

@@ -46,7 +46,7 @@ pub fn answer_before_table<W: Write + Drop>(
             }
         }
     }
-    Ok(BeforeTable::Waits)
+    Ok(BeforeTable::NoTable)
 }
 
 /// Answers a line of a script while there is no table.
@@ -63,7 +63,7 @@ fn answer_line<W: Write + Drop>(
         Line::Table(table) => return make_table(alloc, number, table, output),
         Line::Command(_command) => print_bad(output, number, &Complaint::NoTable)?,
     }
-    Ok(BeforeTable::Waits)
+    Ok(BeforeTable::NoTable)
 }
 
 /// Makes a table, or answers why it is refused.
@@ -83,7 +83,7 @@ fn make_table<W: Write + Drop>(
         }
         Err(fault) => {
             let _failed = refuse_table(number, fault, output)?;
-            Ok(BeforeTable::Waits)
+            Ok(BeforeTable::NoTable)
         }
     }
 }

@@ -9,6 +9,7 @@ mod answering;
 mod asked;
 mod before_table;
 mod build_counts;
+mod build_line;
 mod complaint;
 mod counts;
 mod failed;

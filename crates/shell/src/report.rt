@@ -1,5 +1,6 @@
 //! How a table and its build stand.
 use crate::build_counts::BuildCounts;
+use crate::build_line::BuildLine;
 use crate::counts::Counts;
 use crate::status_line::StatusLine;
 use crate::wait::Wait;
@@ -35,7 +36,7 @@ pub fn report<'a, T: Table>(
     })?;
     match &counts.build {
         Some(build) => add_build(&mut lines, core, build)?,
-        None => lines.push(StatusLine::NoBuild)?,
+        None => lines.push(StatusLine::OfBuild(BuildLine::NoBuild))?,
     }
     add_ready(&mut lines, core)?;
     Ok(lines)
@@ -59,25 +60,25 @@ fn add_build<'a, T: Table>(
     core: &'a Core<SpoolOfKind, T>,
     build: &BuildCounts,
 ) -> Result<(), AllocFailed<StatusLine<'a>>> {
-    lines.push(StatusLine::Build {
+    lines.push(StatusLine::OfBuild(BuildLine::Build {
         phase: phase(build),
         scanned: build.scanned,
         pages: build.pages,
-    })?;
+    }))?;
     for (worker, counts) in build.workers().iter().enumerate() {
-        lines.push(StatusLine::Worker {
+        lines.push(StatusLine::OfBuild(BuildLine::Worker {
             worker,
             waiting: counts.waiting(),
             unsealed: counts.unsealed(),
-        })?;
+        }))?;
     }
     for (index, counts) in build.indexes().iter().enumerate() {
-        lines.push(StatusLine::Index {
+        lines.push(StatusLine::OfBuild(BuildLine::Index {
             index,
             is_loaded: counts.is_loaded,
             unfed: unfed(core, index),
             in_ring: counts.in_ring(),
-        })?;
+        }))?;
     }
     add_waits(lines, core, build)
 }

@@ -88,7 +88,7 @@ fn await_table<R: Read + Drop, W: Write + Drop, P: Write + Drop>(
         let answered = answer_before_table(alloc, next, output)?;
         output.flush()?;
         match answered {
-            BeforeTable::Waits => (),
+            BeforeTable::NoTable => (),
             BeforeTable::Made { slot_limit, parts } => return Ok(Some((slot_limit, parts))),
             BeforeTable::Quits => return Ok(None),
         }

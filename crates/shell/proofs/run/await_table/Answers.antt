@@ -9,7 +9,7 @@ loop-preserved g c =
     let told = c.loop.invariant.0 in
     let next = c.in-Some.next in
     let more = rw c.in-Some.is at c.in_ok-next.ensures in
-    let comes = rw c.in-Waits.is at c.in_ok-answered.ensures in (
+    let comes = rw c.in-NoTable.is at c.in_ok-answered.ensures in (
       told ++ next.record ∷ [],
       gives_more c.args.input.now c.loop.input c.next.new.self told next c.loop.invariant.1 more,
       goes_more told next.record c.loop.invariant.2 comes.1,
