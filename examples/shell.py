@@ -4,7 +4,9 @@
     python3 examples/shell.py    once `./sfbuild prove` has built the program; examples/shell.out is what it prints
 """
 import csv
+import io
 import os
+import re
 import subprocess
 
 TOP = os.path.dirname(os.path.dirname(os.path.abspath(__file__)))
@@ -13,17 +15,19 @@ TOP = os.path.dirname(os.path.dirname(os.path.abspath(__file__)))
 class Shell:
     def __init__(self):
         words = [os.path.join(TOP, "sfbuild"), "shell"]
-        self.process = subprocess.Popen(words, stdin=subprocess.PIPE, stdout=subprocess.PIPE, text=True)
-        self.answers = csv.reader(self.process.stdout)
+        self.process = subprocess.Popen(words, stdin=subprocess.PIPE, stdout=subprocess.PIPE)
+        # As it is sent, with each end of line as it is.
+        self.input = io.TextIOWrapper(self.process.stdin, encoding="utf-8", newline="")
+        self.answers = csv.reader(io.TextIOWrapper(self.process.stdout, encoding="utf-8", newline=""))
 
     def ask(self, record):
         """Sends a record, and gives the values of its answer and the lines that follow it, each without the record's number."""
-        self.process.stdin.write(record + "\n")
-        self.process.stdin.flush()
+        self.input.write(record + "\n")
+        self.input.flush()
         outcome, *values = next(self.answers)[1:]
         if outcome != "ok":
             raise ValueError(f"{record}: {outcome} {' '.join(values)}")
-        command, lines = record.split(",")[0], []
+        command, lines = re.split("[, ]", record)[0], []
         if command in ("pairs", "rest", "side", "status", "help"):
             lines = [next(self.answers)[1:] for _ in range(int(values[0]))]
         while command in ("switch", "abandon") and (not lines or lines[-1][0] != "pages"):

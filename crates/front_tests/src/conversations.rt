@@ -1,5 +1,6 @@
 //! Conversations with the shell, each with what is typed, the answers and the exit status.
 
+use crate::broken::Broken;
 use crate::room::Room;
 use shell::shell;
 use std::alloc::Global;
@@ -67,8 +68,8 @@ status
 13,worker,0,1,0
 13,index,0,unloaded,2,0
 13,waits,pages,1
-13,waits,index,0
 13,waits,worker,0
+13,waits,index,0
 14,ok,1
 15,ok,1
 16,ok,9,1
@@ -77,8 +78,8 @@ status
 17,build,load,2,2
 17,worker,0,1,1
 17,index,0,unloaded,3,0
-17,waits,index,0
 17,waits,worker,0
+17,waits,index,0
 18,ok,1
 19,ok,5
 19,table,2,2,9,1,int
@@ -125,12 +126,13 @@ get,0.0
 row,\"=a,b
 row,5\rrow,6
 get,0.0
+exit\tabcdefghijklmnopqrstuvwxyzabcdefghi
+exit\tabcdefghijklmnopqrstuvwxyzabcdefghij
 quit
 row,7
 ",
-        answered: "1,bad,\"no record is a table (table,L,KIND,..)\"
-2,bad,\"field 1, \"\"fly\"\", is no command (table, row, begin, insert, update, delete, undo, commit, get, spools, start, scan, \
-digest, seal, load, feed, apply, fence, switch, abandon, side, pairs or rest)\"
+        answered: "1,bad,\"there is no table yet (table,L,KIND,..)\"
+2,bad,\"\"\"fly\"\" is no command and no word (help lists them)\"
 3,ok,1
 3,table,none
 4,bad,\"field 3, \"\"real\"\", is no kind (int, text or flag)\"
@@ -145,7 +147,9 @@ digest, seal, load, feed, apply, fence, switch, abandon, side, pairs or rest)\"
 12,ok,0.0
 13,ok,0.1
 14,ok,5
-15,ok
+15,bad,\"\"\"exit\\tabcdefghijklmnopqrstuvwxyzabcdefghi\"\" is no command and no word (help lists them)\"
+16,bad,\"\"\"exit\\tabcdefghijklmnopqrstuvwxyzabcdefghi..\"\" is no command and no word (help lists them)\"
+17,ok
 ",
         status: 0,
     },
@@ -157,7 +161,7 @@ table,256,int
 table,1,int
 row,5",
         answered: "1,refused,43,BadCount
-2,bad,\"no record is a table (table,L,KIND,..)\"
+2,bad,\"there is no table yet (table,L,KIND,..)\"
 3,refused,43,BadCount
 4,ok
 5,ok,0.0
@@ -230,14 +234,12 @@ abandon
 3,ok,1
 4,ok,0
 5,refused,51,NoPage
-6,ok,7
+6,ok,5
 6,table,2,1,2,0,int
 6,build,spoiled,1,1
 6,worker,0,1,0
 6,index,0,unloaded,0,0
 6,waits,abandon,51,NoPage
-6,waits,index,0
-6,waits,worker,0
 7,ok
 7,pages,0
 ",
@@ -252,8 +254,7 @@ help start
         answered: "1,ok,2
 1,help,\"get,RID\",gives the row that is at the RID now
 1,field,2,\"RID (a page and a slot, as 12.3)\"
-2,bad,\"field 1, \"\"help fly\"\", is no command (table, row, begin, insert, update, delete, undo, commit, get, spools, start, scan, \
-digest, seal, load, feed, apply, fence, switch, abandon, side, pairs or rest)\"
+2,bad,\"\"\"help fly\"\" is no command and no word (help lists them)\"
 3,ok,6
 3,help,\"start,W,Q,DEALING,SPEC,..\",\"starts a build with W workers (1 to 16), a quota of Q pages (at most 1024) for each worker and index, \
 1 to 256 page ranges and 1 to 8 indexes\"
@@ -272,12 +273,19 @@ fn text(bytes: &[u8]) -> &str {
     str::from_utf8(bytes).unwrap_or("(no text)")
 }
 
-/// Whether the answers and the status are those, and no prompt is shown.
+/// Whether the answers and the status are those, and nothing else is said.
 fn is_answered(alloc: Global, conversation: &Conversation) -> bool {
-    let mut out = Vec::new(alloc);
+    let (mut out, mut err) = (Vec::new(alloc), Vec::new(alloc));
     let prompt: Option<Vec<u8>> = None;
-    let status = shell(alloc, conversation.typed.as_bytes(), &mut out, prompt);
-    (text(out.as_slice()), status) == (conversation.answered, conversation.status)
+    let status = shell(
+        alloc,
+        conversation.typed.as_bytes(),
+        &mut out,
+        &mut err,
+        prompt,
+    );
+    (text(out.as_slice()), text(err.as_slice()), status)
+        == (conversation.answered, "", conversation.status)
 }
 
 /// The first conversation that is answered otherwise.
@@ -298,8 +306,9 @@ fn each_record_is_answered(rt: HostRuntime) {
 /// How many records `help` gives, of which the first tells how many lines follow, and whether it tells so.
 fn helped(alloc: Global) -> (usize, bool) {
     let mut out = Vec::new(alloc);
+    let err: Vec<u8> = Vec::new(alloc);
     let prompt: Option<Vec<u8>> = None;
-    let _status = shell(alloc, "help\n".as_bytes(), &mut out, prompt);
+    let _status = shell(alloc, "help\n".as_bytes(), &mut out, err, prompt);
     let told = text(out.as_slice());
     (
         told.lines().count(),
@@ -314,9 +323,9 @@ fn help_lists_all(rt: HostRuntime) {
 
 /// Whether a prompt is shown before each line, and before the end.
 fn is_prompted(alloc: Global, typed: &str, shown: &str) -> bool {
-    let out: Vec<u8> = Vec::new(alloc);
+    let (out, err): (Vec<u8>, Vec<u8>) = (Vec::new(alloc), Vec::new(alloc));
     let mut prompt = Vec::new(alloc);
-    let _status = shell(alloc, typed.as_bytes(), out, Some(&mut prompt));
+    let _status = shell(alloc, typed.as_bytes(), out, err, Some(&mut prompt));
     text(prompt.as_slice()) == shown
 }
 
@@ -332,24 +341,41 @@ fn a_prompt_is_shown_before_each_line(rt: HostRuntime) {
     assert!(rt; is_prompted(rt.alloc(), "", "sfbuild> "));
 }
 
-/// The status of a conversation whose answers have so many bytes of room.
-fn status_in(alloc: Global, conversation: &Conversation, room: usize) -> u8 {
+/// The status of a conversation whose answers have so many bytes of room, and whether that is what is said to be wrong.
+fn ended_in(alloc: Global, conversation: &Conversation, room: usize) -> (u8, bool) {
     let out = Room::new(Vec::new(alloc), room);
+    let mut err = Vec::new(alloc);
     let prompt: Option<Vec<u8>> = None;
-    shell(alloc, conversation.typed.as_bytes(), out, prompt)
+    let status = shell(alloc, conversation.typed.as_bytes(), out, &mut err, prompt);
+    let is_told = text(err.as_slice()) == "shell: an answer can't be written\n";
+    (status, is_told)
 }
 
-/// The first room that is too small, and of which the status doesn't tell.
+/// The first room that is too small, and of which nothing is told.
 fn room_untold(alloc: Global, conversation: &Conversation) -> Option<usize> {
-    (0..conversation.answered.len()).find(|room| status_in(alloc, conversation, *room) != 2)
+    (0..conversation.answered.len()).find(|room| ended_in(alloc, conversation, *room) != (2, true))
 }
 
 #[test]
-fn a_writer_that_fails_is_told_by_the_status(rt: HostRuntime) {
+fn a_writer_that_fails_is_told(rt: HostRuntime) {
     let conversation = &CONVERSATIONS[4];
     assert_eq!(rt; room_untold(rt.alloc(), conversation), None);
     assert_eq!(rt;
-        status_in(rt.alloc(), conversation, conversation.answered.len()),
-        1
+        ended_in(rt.alloc(), conversation, conversation.answered.len()),
+        (1, false)
     );
+}
+
+/// Whether it is told that the input can't be read behind so many calls.
+fn is_told_unread(alloc: Global, well: usize) -> bool {
+    let (out, mut err): (Vec<u8>, Vec<u8>) = (Vec::new(alloc), Vec::new(alloc));
+    let prompt: Option<Vec<u8>> = None;
+    let status = shell(alloc, Broken::new(well), out, &mut err, prompt);
+    (text(err.as_slice()), status) == ("shell: cannot be read\n", 2)
+}
+
+#[test]
+fn a_reader_that_fails_is_told(rt: HostRuntime) {
+    assert!(rt; is_told_unread(rt.alloc(), 0));
+    assert!(rt; is_told_unread(rt.alloc(), 2));
 }

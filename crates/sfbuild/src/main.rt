@@ -102,13 +102,13 @@ fn run_race<A: Threads + Wait + Sync, R: Read + Drop>(
 
 /// Answers the records of the standard input. A prompt is shown where somebody types them and reads the answers.
 fn converse(rt: &HostRuntime) -> u8 {
-    let (input, out) = (rt.stdin(), rt.stdout());
+    let (input, out, err) = (rt.stdin(), rt.stdout(), rt.stderr());
     let prompt = if input.is_terminal() && out.is_terminal() {
         Some(rt.stdout())
     } else {
         None
     };
-    shell::shell(rt.alloc(), input, out, prompt)
+    shell::shell(rt.alloc(), input, out, err, prompt)
 }
 
 /// Builds the indexes that the words ask for.

@@ -104,9 +104,9 @@ pub ends_before : (input : InputValue) → EndsBefore input → EndsFrom input D
 ends_before input ends = (ends.0, ends.1, inl (ends.2, refl))
 
 -- a table is made, and the records behind it are answered on it
-pub ends_on : (old new : InputValue) (heap : HeapState) (status : Status) → old.given ≡ 0 → MakesTable old new heap → EndsOn new heap status
-    → EndsFrom old status
-ends_on old new heap status zero made ends =
+pub ends_on : (old new : InputValue) (slot_limit : ℕ) (heap : HeapState) (status : Status) → old.given ≡ 0 → MakesTable old new slot_limit heap
+    → EndsOn new heap status → EndsFrom old status
+ends_on old new slot_limit heap status zero made ends =
     let table = Good (TableLine made.table) in
     let goes : GoesOn (made.before ++ table ∷ []) =
     All-append IsNoQuit made.before (table ∷ []) made.goes (All-cons IsNoQuit table [] (λ is. is) (All-nil IsNoQuit)) in
@@ -117,13 +117,13 @@ ends_on old new heap status zero made ends =
     (subst (λ (h : HeapState). RunsOn h (commands_told (new.given + 1) ends.0) status) made.empty ends.2) in (
       (made.before ++ table ∷ []) ++ ends.0,
       finishes_behind old new (made.before ++ table ∷ []) ends.0 made.gives goes ends.1,
-      inr (made.before, made.table, ends.0, append_assoc made.before (table ∷ []) ends.0, made.none, ran),
+      inr (made.before, made.table, ends.0, append_assoc made.before (table ∷ []) ends.0, made.none, made.accepted, ran),
     )
 
-pub ends_all : (old new : InputValue) (heap : HeapState) (result : Result Status Failed) → old.given ≡ 0 → MakesTable old new heap
-    → IfOk result (EndsOn new heap) → IfOk result (EndsFrom old)
-ends_all old new heap (Ok status) zero made ends = ends_on old new heap status zero made ends
-ends_all old new heap (Err failed) zero made ends = tt
+pub ends_all : (old new : InputValue) (slot_limit : ℕ) (heap : HeapState) (result : Result Status Failed) → old.given ≡ 0
+    → MakesTable old new slot_limit heap → IfOk result (EndsOn new heap) → IfOk result (EndsFrom old)
+ends_all old new slot_limit heap (Ok status) zero made ends = ends_on old new slot_limit heap status zero made ends
+ends_all old new slot_limit heap (Err failed) zero made ends = tt
 
 -- of a text that is known the records are its own
 leaves_known : (known : Option (List ℕ)) (input : InputValue) (status : Status) → input.bytes ≡ known → input.waiting ≡ [] → EndsFrom input status
@@ -149,6 +149,12 @@ goes_more told one goes on = All-append IsNoQuit told (one ∷ []) goes (All-con
 -- it made no table
 pub none_more : (told : List InputRecord) (one : InputRecord) → All MakesNone told → MakesNone one → All MakesNone (told ++ one ∷ [])
 none_more told one none also = All-append MakesNone told (one ∷ []) none (All-cons MakesNone one [] also (All-nil MakesNone))
+
+-- a record that ends the conversation is no table
+pub quit_makes_none : (one : InputRecord) → IsQuit one → MakesNone one
+quit_makes_none (Good line) is = absurd is
+quit_makes_none (Word text) is = tt
+quit_makes_none (Bad explanation) is = absurd is
 
 -- and was answered on the table
 pub runs_more : (start now later : InputValue) (told : List InputRecord) (next : NumberedRecord) (a b c : ScriptState) → Gives start told now

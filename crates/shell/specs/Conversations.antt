@@ -1,5 +1,5 @@
 -- What a conversation does: which records it answers, and what their commands do to its table.
-use Rattle.std.specs.Prelude.{◌≡◌, ◌⊎◌, ℕ, ◌+◌, List, [], ◌∷◌, ◌++◌, map, length, string_bytes, codes, ⊤}
+use Rattle.std.specs.Prelude.{◌≡◌, ◌⊎◌, ℕ, ◌+◌, List, [], ◌∷◌, ◌++◌, map, length, None, string_bytes, codes, ⊤}
 use Rattle.std.specs.List.{All}
 use Rattle.keybytes.specs.Faults.{RefusedFor}
 use Rattle.keybytes.specs.declared.fault.Fault.{Fault}
@@ -19,7 +19,7 @@ use Rattle.replay.specs.declared.status.Status.TheVariants.{Done}
 use Rattle.shell.specs.Counting.{asked_by, counts_after}
 use Rattle.shell.specs.Inputs.{AreAllOf, AreFirstOf, Gives, HasGiven, InputValue}
 use Rattle.shell.specs.declared.before_table.BeforeTable.{BeforeTable}
-use Rattle.shell.specs.declared.before_table.BeforeTable.TheVariants.{Waits, Made, Quits}
+use Rattle.shell.specs.declared.before_table.BeforeTable.TheVariants.{NoTable, Made, Quits}
 use Rattle.shell.specs.declared.counts.Counts.{Counts}
 
 -- the line of a script that a record is; what is none counts as passed over
@@ -61,7 +61,7 @@ abbrev pub EndsTalk : List InputRecord → Status → Type 0
 EndsTalk told status =
     (All MakesNone told × (status ≡ Done))
     ⊎ ((before : List InputRecord) × (table : Table) × (behind : List InputRecord)
-    × (told ≡ before ++ Good (TableLine table) ∷ behind) × All MakesNone before
+    × (told ≡ before ++ Good (TableLine table) ∷ behind) × All MakesNone before × (table_refusal table ≡ None)
     × RunsOn (empty_heap_of table) (commands_told (length before + 2) behind) status)
 
 -- a conversation over the text ends with that status
@@ -82,22 +82,26 @@ EndsFrom input status = (told : List InputRecord) × Finishes input told × Ends
 
 -- what comes behind a record while there is no table
 abbrev pub ComesBehind : InputRecord → BeforeTable → Type 0
-ComesBehind one Waits = MakesNone one × ¬ (IsQuit one)
-ComesBehind one (Made slot_limit parts) = (table : Table) × (one ≡ Good (TableLine table)) × (parts.heap ≡ empty_heap_of table)
-ComesBehind one Quits = IsQuit one × MakesNone one
+ComesBehind one NoTable = MakesNone one × ¬ (IsQuit one)
+ComesBehind one (Made slot_limit parts) =
+    (table : Table) × (one ≡ Good (TableLine table)) × (table_refusal table ≡ None) × (parts.heap ≡ empty_heap_of table)
+    × (slot_limit ≡ table.slot_limit)
+ComesBehind one Quits = IsQuit one
 
 -- the conversation was over before a table was made
 abbrev pub EndsBefore : InputValue → Type 0
 EndsBefore input = (told : List InputRecord) × Finishes input told × All MakesNone told
 
--- a table of that heap was made, by the record that the input gave last
-pub record MakesTable (old new : InputValue) (heap : HeapState) : Type 0 where
+-- a table of that slot limit and that heap was made, by the record that the input gave last
+pub record MakesTable (old new : InputValue) (slot_limit : ℕ) (heap : HeapState) : Type 0 where
   pub before : List InputRecord
   pub table : Table
   pub gives : Gives old (before ++ Good (TableLine table) ∷ []) new
   pub goes : GoesOn before
   pub none : All MakesNone before
+  pub accepted : table_refusal table ≡ None
   pub empty : heap ≡ empty_heap_of table
+  pub limit : slot_limit ≡ table.slot_limit
 
 -- the records from that moment on were answered on a table, which stood so before and stands so now
 abbrev pub TalksOn : InputValue → ScriptState → ScriptState → Type 0

@@ -6,6 +6,7 @@ ghost use Rattle.shell.specs.Counting.{asked_by, counts_after};
 
 use crate::asked::Asked;
 use crate::before_table::BeforeTable;
+use crate::complaint::Complaint;
 use crate::counts::Counts;
 use crate::failed::Failed;
 use crate::help::{print_help, print_help_on};
@@ -17,7 +18,7 @@ use crate::word::Word;
 use builder_core::Table;
 use keybytes::Fault;
 use replay::{Answer, Bench, Output, OutputFailed, Session, refuse_table, table_parts};
-use script::{Command, Explanation, InputRecord, Line, Misfit};
+use script::{Command, Explanation, InputRecord, Line};
 use std::alloc::{AllocFailed, Global};
 use std::io::Write;
 
@@ -46,7 +47,7 @@ pub fn answer_before_table<W: Write + Drop>(
             }
         }
     }
-    Ok(BeforeTable::Waits)
+    Ok(BeforeTable::NoTable)
 }
 
 /// Answers a line of a script while there is no table.
@@ -61,9 +62,9 @@ fn answer_line<W: Write + Drop>(
     match line {
         Line::PassedOver => (),
         Line::Table(table) => return make_table(alloc, number, table, output),
-        Line::Command(_command) => print_bad(output, number, &Explanation::NoTable)?,
+        Line::Command(_command) => print_bad(output, number, &Complaint::NoTable)?,
     }
-    Ok(BeforeTable::Waits)
+    Ok(BeforeTable::NoTable)
 }
 
 /// Makes a table, or answers why it is refused.
@@ -83,7 +84,7 @@ fn make_table<W: Write + Drop>(
         }
         Err(fault) => {
             let _failed = refuse_table(number, fault, output)?;
-            Ok(BeforeTable::Waits)
+            Ok(BeforeTable::NoTable)
         }
     }
 }
@@ -155,10 +156,7 @@ fn asks_for_status<W: Write + Drop>(
         Some(Word::Status) => return Ok(true),
         Some(Word::Help) => print_help(output, number)?,
         Some(Word::HelpOn(name)) => print_help_on(output, number, name)?,
-        None => {
-            let explanation = Explanation::Misfit(Misfit::UnknownCommand { text });
-            print_bad(output, number, &explanation)?;
-        }
+        None => print_bad(output, number, &Complaint::UnknownWord(text))?,
     }
     Ok(false)
 }

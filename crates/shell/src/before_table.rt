@@ -4,7 +4,7 @@ use builder_core::Parts;
 #[derive(Drop)]
 pub enum BeforeTable {
     /// The next record: there is still no table.
-    Waits,
+    NoTable,
     /// A table was made, of that slot limit.
     Made { slot_limit: u32, parts: Parts },
     /// The conversation is to end.

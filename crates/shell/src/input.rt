@@ -75,7 +75,7 @@ impl<R: Read + Drop, P: Write + Drop> Input<R, P> {
     {
         for _ in 0..u64::MAX {
             if let Some(record) = self.waiting.pop_front() {
-                let number = self.given.checked_add(1).ok_or(Failed)?;
+                let number = self.given.checked_add(1).ok_or(Failed::CannotRead)?;
                 self.given = number;
                 return Ok(Some(NumberedRecord { number, record }));
             }
@@ -83,7 +83,7 @@ impl<R: Read + Drop, P: Write + Drop> Input<R, P> {
                 return Ok(None);
             }
         }
-        Err(Failed)
+        Err(Failed::CannotRead)
     }
 
     /// Reads the next line, and answers whether there is one.
@@ -106,8 +106,9 @@ impl<R: Read + Drop, P: Write + Drop> Input<R, P> {
         ensures { self.new ≡ self.old }
     {
         if let Some(prompt) = &mut self.prompt {
-            prompt.write_all(PROMPT)?;
-            prompt.flush()?;
+            if prompt.write_all(PROMPT).is_err() || prompt.flush().is_err() {
+                return Err(Failed::CannotWrite);
+            }
         }
         Ok(())
     }

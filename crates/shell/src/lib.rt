@@ -9,6 +9,8 @@ mod answering;
 mod asked;
 mod before_table;
 mod build_counts;
+mod build_line;
+mod complaint;
 mod counts;
 mod failed;
 mod help;

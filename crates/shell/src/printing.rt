@@ -1,10 +1,10 @@
 //! The answers that only a shell gives, as they are printed.
+use crate::build_line::BuildLine;
 use crate::status_line::StatusLine;
 use crate::wait::Wait;
 use arrayvec::ArrayString;
 use keybytes::Kind;
 use replay::{Output, OutputFailed};
-use script::Explanation;
 use std::fmt::{Display, Write as _};
 use std::io::Write;
 
@@ -22,13 +22,13 @@ pub fn print_text<W: Write + Drop, D: Display>(
 }
 
 /// Says what is wrong with a record.
-pub fn print_bad<W: Write + Drop>(
+pub fn print_bad<W: Write + Drop, D: Display>(
     output: &mut Output<W>,
     number: usize,
-    explanation: &Explanation,
+    wrong: &D,
 ) -> Result<(), OutputFailed> {
     output.fields(number, "bad")?;
-    print_text(output, explanation)?;
+    print_text(output, wrong)?;
     output.end()
 }
 
@@ -64,7 +64,6 @@ fn print_line<W: Write + Drop>(
 ) -> Result<(), OutputFailed> {
     match line {
         StatusLine::NoTable => output.fields("table", "none"),
-        StatusLine::NoBuild => output.fields("build", "none"),
         StatusLine::Table {
             slot_limit,
             pages,
@@ -77,7 +76,25 @@ fn print_line<W: Write + Drop>(
             output.field(*open)?;
             print_kinds(output, kinds)
         }
-        StatusLine::Build {
+        StatusLine::OfBuild(line) => print_build_line(output, line),
+        StatusLine::Waits(wait) => {
+            output.text("waits")?;
+            print_wait(output, *wait)
+        }
+        StatusLine::Ready { number, pairs } => {
+            output.fields("ready", *number)?;
+            output.field(*pairs)
+        }
+    }
+}
+
+fn print_build_line<W: Write + Drop>(
+    output: &mut Output<W>,
+    line: &BuildLine,
+) -> Result<(), OutputFailed> {
+    match line {
+        BuildLine::NoBuild => output.fields("build", "none"),
+        BuildLine::Build {
             phase,
             scanned,
             pages,
@@ -85,7 +102,7 @@ fn print_line<W: Write + Drop>(
             output.fields("build", *phase)?;
             output.fields(*scanned, *pages)
         }
-        StatusLine::Worker {
+        BuildLine::Worker {
             worker,
             waiting,
             unsealed,
@@ -93,7 +110,7 @@ fn print_line<W: Write + Drop>(
             output.fields("worker", *worker)?;
             output.fields(*waiting, *unsealed)
         }
-        StatusLine::Index {
+        BuildLine::Index {
             index,
             is_loaded,
             unfed,
@@ -102,14 +119,6 @@ fn print_line<W: Write + Drop>(
             output.fields("index", *index)?;
             output.text(if *is_loaded { "loaded" } else { "unloaded" })?;
             output.fields(*unfed, *in_ring)
-        }
-        StatusLine::Waits(wait) => {
-            output.text("waits")?;
-            print_wait(output, *wait)
-        }
-        StatusLine::Ready { number, pairs } => {
-            output.fields("ready", *number)?;
-            output.field(*pairs)
         }
     }
 }

@@ -1,5 +1,6 @@
 //! How a table and its build stand.
 use crate::build_counts::BuildCounts;
+use crate::build_line::BuildLine;
 use crate::counts::Counts;
 use crate::status_line::StatusLine;
 use crate::wait::Wait;
@@ -17,8 +18,8 @@ pub fn no_table<'a>(alloc: Global) -> Result<Vec<StatusLine<'a>>, AllocFailed<St
     Ok(lines)
 }
 
-/// What `status` tells of a table: itself, its build with what a switch waits for, in the order in which it would refuse, and the indexes that
-/// are ready.
+/// What `status` tells of a table: itself, its build with what is to be done before a switch decides, first things first, and the indexes that are
+/// ready.
 pub fn report<'a, T: Table>(
     alloc: Global,
     core: &'a Core<SpoolOfKind, T>,
@@ -35,7 +36,7 @@ pub fn report<'a, T: Table>(
     })?;
     match &counts.build {
         Some(build) => add_build(&mut lines, core, build)?,
-        None => lines.push(StatusLine::NoBuild)?,
+        None => lines.push(StatusLine::OfBuild(BuildLine::NoBuild))?,
     }
     add_ready(&mut lines, core)?;
     Ok(lines)
@@ -59,25 +60,25 @@ fn add_build<'a, T: Table>(
     core: &'a Core<SpoolOfKind, T>,
     build: &BuildCounts,
 ) -> Result<(), AllocFailed<StatusLine<'a>>> {
-    lines.push(StatusLine::Build {
+    lines.push(StatusLine::OfBuild(BuildLine::Build {
         phase: phase(build),
         scanned: build.scanned,
         pages: build.pages,
-    })?;
+    }))?;
     for (worker, counts) in build.workers().iter().enumerate() {
-        lines.push(StatusLine::Worker {
+        lines.push(StatusLine::OfBuild(BuildLine::Worker {
             worker,
             waiting: counts.waiting(),
             unsealed: counts.unsealed(),
-        })?;
+        }))?;
     }
     for (index, counts) in build.indexes().iter().enumerate() {
-        lines.push(StatusLine::Index {
+        lines.push(StatusLine::OfBuild(BuildLine::Index {
             index,
             is_loaded: counts.is_loaded,
             unfed: unfed(core, index),
             in_ring: counts.in_ring(),
-        })?;
+        }))?;
     }
     add_waits(lines, core, build)
 }
@@ -103,26 +104,27 @@ fn unfed<T: Table>(core: &Core<SpoolOfKind, T>, index: usize) -> u64 {
     }
 }
 
-/// Adds what a switch waits for.
+/// Adds what a switch waits for: what is to be done before it decides, first things first.
 fn add_waits<'a, T: Table>(
     lines: &mut Vec<StatusLine<'a>>,
     core: &'a Core<SpoolOfKind, T>,
     build: &BuildCounts,
 ) -> Result<(), AllocFailed<StatusLine<'a>>> {
     if let Some(fault) = build.spoiled {
-        lines.push(StatusLine::Waits(Wait::Spoiled(fault)))?;
+        // Nothing else helps a spoiled build.
+        return lines.push(StatusLine::Waits(Wait::Spoiled(fault)));
     }
     if build.unscanned() > 0 {
         lines.push(StatusLine::Waits(Wait::Pages(build.unscanned())))?;
     }
-    for (index, counts) in build.indexes().iter().enumerate() {
-        if !counts.is_loaded {
-            lines.push(StatusLine::Waits(Wait::Index(index)))?;
-        }
-    }
     for (worker, counts) in build.workers().iter().enumerate() {
         if counts.waiting() > 0 || counts.unsealed() > 0 {
             lines.push(StatusLine::Waits(Wait::Worker(worker)))?;
+        }
+    }
+    for (index, counts) in build.indexes().iter().enumerate() {
+        if !counts.is_loaded {
+            lines.push(StatusLine::Waits(Wait::Index(index)))?;
         }
     }
     add_last_waits(lines, core, build)

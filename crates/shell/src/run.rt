@@ -15,11 +15,13 @@ use std::io::{Read, Write};
 use std::marker::Brand;
 
 /// Answers each record of the reader at once, until a `quit` or the end, and shows a prompt before each line where there is one to show it on.
-/// Answers the exit status: 1 where a switch refused an index, and 2 where the output failed or the input could not be read.
-pub fn shell<R: Read + Drop, W: Write + Drop, P: Write + Drop>(
+/// Answers the exit status: 1 where a switch refused an index, and 2 where the input could not be read or an answer not be written, which is
+/// said on `err`.
+pub fn shell<R: Read + Drop, W: Write + Drop, E: Write + Drop, P: Write + Drop>(
     alloc: Global,
     reader: R,
     out: W,
+    err: E,
     prompt: Option<P>,
 ) -> u8
     ensures limit { result ≤ 2 }
@@ -27,8 +29,16 @@ pub fn shell<R: Read + Drop, W: Write + Drop, P: Write + Drop>(
 {
     match converse(alloc, reader, out, prompt) {
         Ok(status) => status as u8,
-        Err(Failed) => Status::Failed as u8,
+        Err(failed) => break_off(failed, err),
     }
+}
+
+/// Says why the conversation broke off, and answers the exit status.
+fn break_off<E: Write + Drop>(failed: Failed, mut err: E) -> u8
+    ensures { result ≡ 2 }
+{
+    let _ = writeln!(err, "shell: {failed}");
+    Status::Failed as u8
 }
 
 /// Answers the records, and tells how it went.
@@ -69,7 +79,7 @@ fn await_table<R: Read + Drop, W: Write + Drop, P: Write + Drop>(
     input: &mut Input<R, P>,
     output: &mut Output<W>,
 ) -> Result<Option<(u32, Parts)>, Failed>
-    ensures { IfOk result (λ made. MatchOption made (EndsBefore input.old) (λ made. MakesTable input.old input.new made.1.heap)) }
+    ensures { IfOk result (λ made. MatchOption made (EndsBefore input.old) (λ made. MakesTable input.old input.new made.0 made.1.heap)) }
 {
     for _ in 0..u64::MAX {
         let Some(next) = input.next()? else {
@@ -78,12 +88,12 @@ fn await_table<R: Read + Drop, W: Write + Drop, P: Write + Drop>(
         let answered = answer_before_table(alloc, next, output)?;
         output.flush()?;
         match answered {
-            BeforeTable::Waits => (),
+            BeforeTable::NoTable => (),
             BeforeTable::Made { slot_limit, parts } => return Ok(Some((slot_limit, parts))),
             BeforeTable::Quits => return Ok(None),
         }
     }
-    Err(Failed)
+    Err(Failed::CannotRead)
 }
 
 /// Gives the table a name, and answers records on it to the end. A build that runs then is given up, with its pages.
@@ -127,5 +137,5 @@ fn answer_all<T: Table, R: Read + Drop, W: Write + Drop, P: Write + Drop>(
             return Ok(());
         }
     }
-    Err(Failed)
+    Err(Failed::CannotRead)
 }
