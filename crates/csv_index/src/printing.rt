@@ -9,10 +9,8 @@ use heap_log::Outcome;
 use keybytes::{Cell, Fault, KeySpec, Rid};
 use spool_kinds::SpoolOfKind;
 use std::io::{self, Write};
+use tree_nodes::{FAN_MAX, LEAF_MAX};
 use words::IndexWord;
-
-/// How many pairs a leaf of a loaded tree has, and how many children an inner node.
-const WIDTH: usize = 32;
 
 /// Prints how much was done: what was read, scanned and loaded, and how many pages the spools of each index had leased at most.
 pub fn print_counts<T: Table, E: Write>(
@@ -114,15 +112,15 @@ fn print_ready<T: Table, W: Write>(
     Ok(())
 }
 
-/// How many levels a tree has that was loaded with so many pairs: each node but the last of a level is full.
+/// How many levels a tree has that was loaded with so many pairs: each node but the last of a level is full. Without pairs it is an empty leaf.
 fn levels_of(pairs: usize) -> usize {
-    let mut levels = 0usize;
-    let mut nodes = pairs;
+    let mut levels = 1usize;
+    let mut nodes = pairs.div_ceil(LEAF_MAX);
     for _ in 0..usize::BITS {
-        if nodes == 0 || (levels > 0 && nodes == 1) {
+        if nodes <= 1 {
             break;
         }
-        nodes = nodes.div_ceil(WIDTH);
+        nodes = nodes.div_ceil(FAN_MAX);
         levels = levels.saturating_add(1);
     }
     levels

@@ -11,7 +11,7 @@ use crate::watching::Watching;
 use builder_core::{Dealing, Ends, Live, Parts, Plan};
 use counted_spool::CountedSpool;
 use crew::{BuildFault, Opened, Table, TableParts, build};
-use csv_table::{Asked, Failure, Filled, Reading, Watch, fill};
+use csv_table::{Asked, Failure, Filled, KeySizes, Reading, Watch, fill};
 use heap_log::Verdicts;
 use heap_table::Heap;
 use keybytes::{Fault, copied_specs};
@@ -95,7 +95,7 @@ fn run<A, R, W, E, V>(
     reader: &mut R,
     out: &mut W,
     err: &mut E,
-    watch: V,
+    mut watch: V,
 ) -> Result<bool, Failure>
 where
     A: Threads + Wait + Sync,
@@ -106,7 +106,6 @@ where
 {
     let asked = Asked::new(alloc, words)?;
     let searches = searches(alloc, words, &asked)?;
-    let mut watch = watch;
     let filled = read(alloc, words, &asked, reader, &mut watch);
     watch.clear();
     let Filled {
@@ -116,11 +115,7 @@ where
         rows,
         left_out,
     } = filled?;
-    let amount = Amount {
-        rows,
-        workers: words.workers.unwrap_or_else(|| processors(rt)),
-        sizes: sizes.as_slice(),
-    };
+    let work = planned(alloc, &asked, amount(rt, words, rows, sizes.as_slice()));
     let facts = Facts {
         alloc,
         words,
@@ -131,7 +126,6 @@ where
         left_out,
         pages: heap.pages(),
     };
-    let work = planned(alloc, &asked, amount);
     run_planned(rt, facts, heap, work, out, err, watch)
 }
 
@@ -183,6 +177,19 @@ where
     let work = work?;
     let parts = table_parts(facts.alloc, heap)?;
     run_named::<Brand, A, W, E, V>(rt, facts, parts, work, out, err, watch)
+}
+
+fn amount<'a, A: Threads>(
+    threads: &A,
+    words: &IndexWords<'_>,
+    rows: u64,
+    sizes: &'a [KeySizes],
+) -> Amount<'a> {
+    Amount {
+        rows,
+        workers: words.workers.unwrap_or_else(|| processors(threads)),
+        sizes,
+    }
 }
 
 fn processors<A: Threads>(threads: &A) -> usize {
@@ -285,7 +292,8 @@ fn tell<T: Opened, W: Write, E: Write>(
     // That it can't be told how much was done is no reason to end.
     let _not_told = print_counts(facts, live, built.spools.as_slice(), err);
     let all_ready = print_verdicts(facts, live, built.verdicts.as_slice(), out)?;
-    list(facts, live, built.verdicts.as_slice(), out)?;
+    // Where the first index isn't ready, no rows are printed behind this.
     out.flush()?;
+    list(facts, live, built.verdicts.as_slice(), out)?;
     Ok(all_ready)
 }

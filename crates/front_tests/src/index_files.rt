@@ -80,8 +80,24 @@ static LISTED: [IndexCase; 22] = [
             "..",
         ],
         file: b"a\n",
-        out: "a: pairs: 0, levels: 0, ready\na: pairs: 0, levels: 0, unique, ready\nline,a\n",
+        out: "a: pairs: 0, levels: 1, ready\na: pairs: 0, levels: 1, unique, ready\nline,a\n",
         err: "rows read: 0, pages scanned: 0, pairs loaded: 0\na: pages leased at most: 0\na: pages leased at most: 0\n",
+        status: 0,
+    },
+    IndexCase {
+        name: "as many rows as a leaf has pairs",
+        words: &["--columns", "a:int", "--on", "a"],
+        file: b"a\n1\n2\n3\n4\n5\n6\n7\n8\n9\n10\n11\n12\n13\n14\n15\n16\n17\n18\n19\n20\n21\n22\n23\n24\n25\n26\n27\n28\n29\n30\n31\n32\n",
+        out: "a: pairs: 32, levels: 1, ready\n",
+        err: "rows read: 32, pages scanned: 1, pairs loaded: 32\na: pages leased at most: 1\n",
+        status: 0,
+    },
+    IndexCase {
+        name: "one row more",
+        words: &["--columns", "a:int", "--on", "a"],
+        file: b"a\n1\n2\n3\n4\n5\n6\n7\n8\n9\n10\n11\n12\n13\n14\n15\n16\n17\n18\n19\n20\n21\n22\n23\n24\n25\n26\n27\n28\n29\n30\n31\n32\n33\n",
+        out: "a: pairs: 33, levels: 2, ready\n",
+        err: "rows read: 33, pages scanned: 1, pairs loaded: 33\na: pages leased at most: 1\n",
         status: 0,
     },
     IndexCase {
@@ -233,8 +249,10 @@ static LISTED: [IndexCase; 22] = [
             "--range",
             "..",
         ],
-        file: b"id,name\n1,a\nx,b\n2\n3,yyyyyyyyyyyyyyyyyyyyyyyyyyyyyyyyyyyyyyyyyyyyyyyyyyyyyyyyyyyyyyyyyyyyyyyyyyyyyyyyyyyyyyyyyyyyyyyyyyyyy\n\n4,d\n4,e\n1,f\n",
-        out: "name: pairs: 4, levels: 1, ready\nid: unique, refused: lines 2 and 9 share the key 1\nrecords left out: 3\nline,id,name\n2,1,a\n7,4,d\n8,4,e\n9,1,f\n",
+        file: b"id,name\n1,a\nx,b\n2\n3,yyyyyyyyyyyyyyyyyyyyyyyyyyyyyyyyyyyyyyyyyyyyyyyyyyyyyyyyyyyyyyyyyyyyyyyyyyyyyyyyyyyyyyyyyyyyyyyyyyyyy\n\
+            \n4,d\n4,e\n1,f\n",
+        out: "name: pairs: 4, levels: 1, ready\nid: unique, refused: lines 2 and 9 share the key 1\nrecords left out: 3\n\
+            line,id,name\n2,1,a\n7,4,d\n8,4,e\n9,1,f\n",
         err: "rows read: 4, pages scanned: 1, pairs loaded: 4\nname: pages leased at most: 1\nid: pages leased at most: 1\n",
         status: 1,
     },
@@ -259,7 +277,7 @@ static LISTED: [IndexCase; 22] = [
         words: &["--columns", "a:int", "--unique", "a", "--range", ".."],
         file: b"a\n7\n8\n7\n",
         out: "a: unique, refused: lines 2 and 4 share the key 7\n",
-        err: "sfbuild index: the first index isn't ready, and gives no rows\n",
+        err: "rows read: 3, pages scanned: 1, pairs loaded: 0\na: pages leased at most: 1\nsfbuild index: the first index isn't ready, and gives no rows\n",
         status: 1,
     },
 ];
@@ -340,7 +358,8 @@ static REFUSED: [IndexCase; 14] = [
     IndexCase {
         name: "a text of 101 bytes",
         words: &["--columns", "a:text", "--on", "a"],
-        file: b"a\nyyyyyyyyyyyyyyyyyyyyyyyyyyyyyyyyyyyyyyyyyyyyyyyyyyyyyyyyyyyyyyyyyyyyyyyyyyyyyyyyyyyyyyyyyyyyyyyyyyyy\nyyyyyyyyyyyyyyyyyyyyyyyyyyyyyyyyyyyyyyyyyyyyyyyyyyyyyyyyyyyyyyyyyyyyyyyyyyyyyyyyyyyyyyyyyyyyyyyyyyyyy\n",
+        file: b"a\nyyyyyyyyyyyyyyyyyyyyyyyyyyyyyyyyyyyyyyyyyyyyyyyyyyyyyyyyyyyyyyyyyyyyyyyyyyyyyyyyyyyyyyyyyyyyyyyyyyyy\n\
+            yyyyyyyyyyyyyyyyyyyyyyyyyyyyyyyyyyyyyyyyyyyyyyyyyyyyyyyyyyyyyyyyyyyyyyyyyyyyyyyyyyyyyyyyyyyyyyyyyyyyy\n",
         out: "",
         err: "sfbuild index: standard input: line 3, column `a`: a text of more than 100 bytes\n",
         status: 2,

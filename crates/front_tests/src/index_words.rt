@@ -32,7 +32,8 @@ static REFUSED: [(&[&str], &str); 22] = [
             "--find",
             "yyyyyyyyyyyyyyyyyyyyyyyyyyyyyyyyyyyyyyyyyyyyyyyyyyyyyyyyyyyyyyyyyyyyyyyyyyyyyyyyyyyyyyyyyyyyyyyyyyyyy",
         ],
-        "sfbuild index: `yyyyyyyyyyyyyyyyyyyyyyyyyyyyyyyyyyyyyyyyyyyyyyyyyyyyyyyyyyyyyyyyyyyyyyyyyyyyyyyyyyyyyyyyyyyyyyyyyyyyy`: no key: column `a`: a text of more than 100 bytes\n",
+        "sfbuild index: `yyyyyyyyyyyyyyyyyyyyyyyyyyyyyyyyyyyyyyyyyyyyyyyyyyyyyyyyyyyyyyyyyyyyyyyyyyyyyyyyyyyyyyyyyyyyyyyyyyyyy`\
+        : no key: column `a`: a text of more than 100 bytes\n",
     ),
     (
         &["--columns", "a:int", "--on", "a", "--find", "1\n2"],

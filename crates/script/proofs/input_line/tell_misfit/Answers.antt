@@ -13,4 +13,4 @@ returns-in-Ok-Some-UnknownCommand-clause-told c =
     let found = c.in-Ok-Some-UnknownCommand in
     let is = UnknownCommand found.text in
     let told = of_found (HasShape fields) (TellsMisfit fields) found.field-0 is (cc (found.field-0-is, found.field-0-0-is)) found.ensures in
-    word_alone fields (string_bytes found.text) (omega (arith, c.if-len-eq1.true, c.len.ensures)) told.0 told.1 c.requires.text
+    word_alone fields (string_bytes found.text) (omega (arith, c.len.ensures)) told.0 told.1 c.requires.text
