@@ -39,6 +39,7 @@ pub use cause::Cause;
 pub use check_error::CheckError;
 pub use command::Command;
 pub use command_name::CommandName;
+pub use excerpt::Excerpt;
 pub use explanation::Explanation;
 pub use input_line::read_input_line;
 pub use input_record::InputRecord;
