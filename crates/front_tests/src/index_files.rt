@@ -2,7 +2,7 @@
 
 use crate::index_case::{IndexCase, printed_otherwise};
 
-static LISTED: [IndexCase; 22] = [
+static LISTED: [IndexCase; 24] = [
     IndexCase {
         name: "quotes, commas and ends of lines in fields",
         words: &[
