@@ -295,5 +295,6 @@ fn tell<T: Opened, W: Write, E: Write>(
     // Where the first index isn't ready, no rows are printed behind this.
     out.flush()?;
     list(facts, live, built.verdicts.as_slice(), out)?;
+    out.flush()?;
     Ok(all_ready)
 }
