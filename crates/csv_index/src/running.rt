@@ -295,6 +295,7 @@ fn tell<T: Opened, W: Write, E: Write>(
     // Where the first index isn't ready, no rows are printed behind this.
     out.flush()?;
     list(facts, live, built.verdicts.as_slice(), out)?;
+    // Whatever the printer of rows couldn't send on as it ended is told by this.
     out.flush()?;
     Ok(all_ready)
 }
