@@ -4,13 +4,9 @@ ghost use Rattle.shell.specs.Counting.{build_after, further, indexes_after, new_
 use crate::asked::Asked;
 use crate::index_counts::IndexCounts;
 use crate::worker_counts::WorkerCounts;
+use builder_core::{INDEXES_MAX, WORKERS_MAX};
 use keybytes::Fault;
 use replay::Answer;
-
-/// The most workers and the most indexes of a build.
-const WORKERS_MAX: usize = 16;
-
-const INDEXES_MAX: usize = 8;
 
 /// What the answers tell of the build that runs.
 #[derive(Clone, Copy)]
