@@ -5,6 +5,8 @@
 #[cfg(test)]
 mod both_ends;
 #[cfg(test)]
+mod calling;
+#[cfg(test)]
 mod changes;
 #[cfg(test)]
 mod copies;
