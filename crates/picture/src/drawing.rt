@@ -25,18 +25,18 @@ pub fn svg(alloc: Global, timeline: &Timeline) -> Result<String, PictureError>
     let layout = Layout::new(alloc, timeline)?;
     let mut pen = Pen::new(alloc);
     draw(&mut pen, timeline, &layout)?;
-    Ok(pen.into_text())
+    pen.into_text()
 }
 
 fn draw(pen: &mut Pen, timeline: &Timeline, layout: &Layout) -> Result<(), PictureError> {
-    pen.head(layout.size)?;
-    pen.title(timeline.title.as_str())?;
-    pen.raw(STYLE)?;
-    pen.raw(SHAPES)?;
-    pen.rect("paper", Place { x: 0, y: 0 }, layout.size)?;
+    pen.head(layout.size);
+    pen.title(timeline.title.as_str());
+    pen.raw(STYLE);
+    pen.raw(SHAPES);
+    pen.rect("paper", Place { x: 0, y: 0 }, layout.size);
     let columns = columns_in(layout.size.width) * 2 / 3;
-    pen.label("h", title_place(), timeline.title.as_str(), columns)?;
-    legend::draw(pen, legend_place(), layout.size.width)?;
+    pen.label("h", title_place(), timeline.title.as_str(), columns);
+    legend::draw(pen, legend_place(), layout.size.width);
     for span in &timeline.spans {
         draw_span(pen, layout, span)?;
     }
@@ -45,7 +45,8 @@ fn draw(pen: &mut Pen, timeline: &Timeline, layout: &Layout) -> Result<(), Pictu
         draw_row(pen, timeline, layout, number, row)?;
     }
     draw_gains(pen, timeline, layout)?;
-    pen.raw("</svg>\n")
+    pen.raw("</svg>\n");
+    Ok(())
 }
 
 /// The names over the lanes, and the lines between these.
@@ -59,7 +60,7 @@ fn draw_lanes(pen: &mut Pen, timeline: &Timeline, layout: &Layout) -> Result<(),
         record.by(width_of(NUMBER_COLUMNS), BASELINE + 3),
         "record",
         layout.record_columns,
-    )?;
+    );
     for (number, lane) in timeline.lanes.iter().enumerate() {
         let place = Place {
             x: layout.lanes.start(number)?,
@@ -74,14 +75,14 @@ fn draw_lanes(pen: &mut Pen, timeline: &Timeline, layout: &Layout) -> Result<(),
             x: place.x,
             y: layout.rows.end(),
         };
-        pen.line("lane", place, bottom)?;
-        pen.rect("name", place, size)?;
+        pen.line("lane", place, bottom);
+        pen.rect("name", place, size);
         pen.label(
             "k",
             place.by(6, BASELINE + 3),
             lane.name.as_str(),
             columns_in(width.saturating_sub(8)),
-        )?;
+        );
     }
     Ok(())
 }
@@ -107,26 +108,21 @@ fn draw_span(pen: &mut Pen, layout: &Layout, span: &Span) -> Result<(), PictureE
         SpanKind::Build => draw_thread(pen, "build", begun, bottom),
         SpanKind::Ready => draw_thread(pen, "done", begun, bottom),
     }
+    Ok(())
 }
 
 /// A line down a lane, on which its marks stand.
-fn draw_thread(pen: &mut Pen, class: &str, from: Place, bottom: u32) -> Result<(), PictureError> {
+fn draw_thread(pen: &mut Pen, class: &str, from: Place, bottom: u32) {
     let from = from.by(14, LINE / 2);
     let to = Place {
         x: from.x,
         y: bottom.saturating_sub(LINE / 2),
     };
-    pen.line(class, from, to)
+    pen.line(class, from, to);
 }
 
 /// The pages of a range, from the left: those that are copied, and those that aren't yet.
-fn draw_scan(
-    pen: &mut Pen,
-    from: Place,
-    size: Size,
-    copied: u32,
-    pages: u32,
-) -> Result<(), PictureError> {
+fn draw_scan(pen: &mut Pen, from: Place, size: Size, copied: u32, pages: u32) {
     let done = part_of(size.width, copied, pages);
     let front = from.by(done, 0);
     let behind = Size {
@@ -137,9 +133,9 @@ fn draw_scan(
         width: size.width.saturating_sub(done),
         height: size.height,
     };
-    pen.rect("copied", from, behind)?;
-    pen.rect("ahead", front, ahead)?;
-    pen.line("front", front, front.by(0, size.height))
+    pen.rect("copied", from, behind);
+    pen.rect("ahead", front, ahead);
+    pen.line("front", front, front.by(0, size.height));
 }
 
 /// The part of a width that so many of all pages take; the whole where there are none.
@@ -161,31 +157,27 @@ fn draw_row(
         x: MARGIN,
         y: layout.rows.start(number)?,
     };
-    pen.begin_group("record", row.number)?;
-    pen.title(row.text.as_str())?;
-    draw_rule(pen, layout, row.kind, top)?;
+    pen.begin_group("record", row.number);
+    pen.title(row.text.as_str());
+    draw_rule(pen, layout, row.kind, top);
     let mut place = top.by(0, 3);
     for remark in &row.remarks {
         let columns = columns_in(layout.lanes.end().saturating_sub(top.x));
-        pen.label("r", place.by(0, BASELINE), remark.as_str(), columns)?;
+        pen.label("r", place.by(0, BASELINE), remark.as_str(), columns);
         place = place.by(0, LINE);
     }
-    draw_record(pen, layout, row, place)?;
+    draw_record(pen, layout, row, place);
     for (number, mark) in row.marks.iter().enumerate() {
         let down = line_of(&row.marks, number).min(10_000) as u32 * LINE;
         let indent = indent(&timeline.lanes, mark.lane);
         draw_mark(pen, layout, mark, place.by(0, down), indent)?;
     }
-    pen.end_group()
+    pen.end_group();
+    Ok(())
 }
 
 /// The line over a row.
-fn draw_rule(
-    pen: &mut Pen,
-    layout: &Layout,
-    kind: RowKind,
-    top: Place,
-) -> Result<(), PictureError> {
+fn draw_rule(pen: &mut Pen, layout: &Layout, kind: RowKind, top: Place) {
     let class = match kind {
         RowKind::Plain => "rule",
         RowKind::Start => "start",
@@ -196,30 +188,24 @@ fn draw_rule(
         x: layout.lanes.end(),
         y: top.y,
     };
-    pen.line(class, top, end)
+    pen.line(class, top, end);
 }
 
 /// The record with its number, and below it why it was refused.
-fn draw_record(
-    pen: &mut Pen,
-    layout: &Layout,
-    row: &Row,
-    place: Place,
-) -> Result<(), PictureError> {
+fn draw_record(pen: &mut Pen, layout: &Layout, row: &Row, place: Place) {
     let text = place.by(width_of(NUMBER_COLUMNS), BASELINE);
     let end = place.by(width_of(NUMBER_COLUMNS - 1), BASELINE);
-    pen.numeral("n", end, row.number)?;
-    pen.label("t", text, row.text.as_str(), layout.record_columns)?;
+    pen.numeral("n", end, row.number);
+    pen.label("t", text, row.text.as_str(), layout.record_columns);
     if let Some(refusal) = &row.refusal {
-        pen.stamp("refused", place.by(width_of(2), LINE))?;
+        pen.stamp("refused", place.by(width_of(2), LINE));
         pen.label(
             "f",
             text.by(0, LINE),
             refusal.as_str(),
             layout.record_columns,
-        )?;
+        );
     }
-    Ok(())
 }
 
 /// How far from the left of a lane its texts stand: behind the shapes, where the lane has some.
@@ -248,9 +234,10 @@ fn draw_mark(
     };
     let columns = columns_in(layout.lanes.size(mark.lane)?.saturating_sub(28));
     if let Some(shape) = shape_of(mark.kind) {
-        pen.stamp(shape, place.by(6, 0))?;
+        pen.stamp(shape, place.by(6, 0));
     }
-    pen.label("t", place.by(indent, BASELINE), mark.text.as_str(), columns)
+    pen.label("t", place.by(indent, BASELINE), mark.text.as_str(), columns);
+    Ok(())
 }
 
 /// The shape of a mark, if it has one.
@@ -281,30 +268,23 @@ fn draw_gains(pen: &mut Pen, timeline: &Timeline, layout: &Layout) -> Result<(),
             y: layout.rows.start(gain.row)?.max(bottom),
         };
         let height = gain_height(gain.lines.len());
-        draw_gain(pen, layout, gain, place, height)?;
+        draw_gain(pen, layout, gain, place, height);
         bottom = place.y.saturating_add(height + 8);
     }
     Ok(())
 }
 
-fn draw_gain(
-    pen: &mut Pen,
-    layout: &Layout,
-    gain: &Gain,
-    place: Place,
-    height: u32,
-) -> Result<(), PictureError> {
+fn draw_gain(pen: &mut Pen, layout: &Layout, gain: &Gain, place: Place, height: u32) {
     let class = match gain.kind {
         GainKind::Ready => "box",
         GainKind::Shared => "bad",
     };
     let width = width_of(layout.gain_columns) + MARGIN;
-    pen.rect(class, place, Size { width, height })?;
+    pen.rect(class, place, Size { width, height });
     let mut text = place.by(8, BASELINE + 3);
-    pen.label("k", text, gain.title.as_str(), layout.gain_columns)?;
+    pen.label("k", text, gain.title.as_str(), layout.gain_columns);
     for line in &gain.lines {
         text = text.by(0, LINE);
-        pen.label("t", text, line.as_str(), layout.gain_columns)?;
+        pen.label("t", text, line.as_str(), layout.gain_columns);
     }
-    Ok(())
 }

@@ -83,17 +83,16 @@ impl Layout {
         ensures lanes { IfOk result (λ layout. length layout.lanes.sizes ≡ vec_len timeline.now.lanes) }
     {
         let record_columns = record_columns(&timeline.rows);
-        let lane_columns = lane_columns(alloc, timeline)?;
         let gain_columns = gain_columns(&timeline.gains);
         let left = MARGIN + width_of(NUMBER_COLUMNS + record_columns) + MARGIN;
-        let lanes = Stack::new(alloc, left, lane_widths(alloc, &lane_columns)?)?;
+        let lanes = lane_places(alloc, left, timeline)?;
         let gains = lanes.end().saturating_add(MARGIN);
         let width = gains
             .saturating_add(gains_width(gain_columns))
             .max(legend::LEAST_WIDTH);
         let names = LEGEND + height_of(legend::lines(width)) + MARGIN;
         let top = names + NAMES + 6;
-        let rows = Stack::new(alloc, top, row_heights(alloc, timeline)?)?;
+        let rows = row_places(alloc, top, timeline)?;
         let bottom = gains_bottom(timeline, &rows)?.max(rows.end());
         let height = bottom.saturating_add(MARGIN);
         Ok(Layout {
@@ -116,6 +115,23 @@ fn gains_width(columns: usize) -> u32
         return 0;
     }
     width_of(columns) + MARGIN + MARGIN
+}
+
+/// Where the lanes stand, from the left.
+fn lane_places(alloc: Global, left: u32, timeline: &Timeline) -> Result<Stack, PictureError>
+    ensures { IfOk result (λ lanes. length lanes.sizes ≡ vec_len timeline.now.lanes) }
+{
+    let columns = lane_columns(alloc, timeline)?;
+    let widths = lane_widths(alloc, &columns)?;
+    Stack::new(alloc, left, widths)
+}
+
+/// Where the rows stand, from the top.
+fn row_places(alloc: Global, top: u32, timeline: &Timeline) -> Result<Stack, PictureError>
+    ensures { IfOk result (λ rows. length rows.sizes ≡ vec_len timeline.now.rows) }
+{
+    let heights = row_heights(alloc, timeline)?;
+    Stack::new(alloc, top, heights)
 }
 
 fn lane_widths(alloc: Global, columns: &[usize]) -> Result<Vec<u32>, PictureError>

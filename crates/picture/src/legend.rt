@@ -1,6 +1,5 @@
 //! What the shapes and the colours of a picture mean.
 
-use crate::PictureError;
 use crate::layout::{BASELINE, LINE, MARGIN};
 use crate::pen::{Pen, Place};
 
@@ -40,14 +39,13 @@ pub fn lines(width: u32) -> usize {
 }
 
 /// Draws the legend, whose first entry stands there, in a picture of that width.
-pub fn draw(pen: &mut Pen, first: Place, width: u32) -> Result<(), PictureError> {
+pub fn draw(pen: &mut Pen, first: Place, width: u32) {
     let in_line = entries_in(width).max(1);
     for (number, (shape, meaning)) in ENTRIES.iter().enumerate() {
         let right = (number % in_line) as u32 * ENTRY;
         let down = (number / in_line) as u32 * LINE;
         let place = first.by(right, down);
-        pen.stamp(shape, place)?;
-        pen.label("t", place.by(22, BASELINE), meaning, ENTRY_COLUMNS)?;
+        pen.stamp(shape, place);
+        pen.label("t", place.by(22, BASELINE), meaning, ENTRY_COLUMNS);
     }
-    Ok(())
 }

@@ -1,14 +1,15 @@
 use crate::PictureError;
 use crate::escape::push_escaped;
-use crate::fitting::cut_to;
-use std::alloc::Global;
+use crate::fitting::{Fitted, cut_to};
+use std::alloc::{AllocError, Global};
 use std::fmt::Write;
 
-/// What writes a picture, and what it has written so far.
+/// What writes a picture, and what it has written so far. Where there was no memory for some of it, its end tells so.
 #[derive(Drop)]
 pub struct Pen {
     alloc: Global,
     out: String,
+    lacks_memory: bool,
 }
 
 /// Where something is drawn, in pixels from the left and from the top.
@@ -30,103 +31,122 @@ impl Pen {
         Pen {
             alloc,
             out: String::new(alloc),
+            lacks_memory: false,
         }
     }
 
-    /// What was written.
-    pub fn into_text(self) -> String {
-        let Pen { alloc: _, out } = self;
-        out
+    /// What was written, all of it.
+    pub fn into_text(self) -> Result<String, PictureError> {
+        let Pen {
+            alloc: _,
+            out,
+            lacks_memory,
+        } = self;
+        if lacks_memory {
+            return Err(PictureError::NoMemory);
+        }
+        Ok(out)
+    }
+
+    fn note(&mut self, written: Result<(), AllocError>) {
+        if written.is_err() {
+            self.lacks_memory = true;
+        }
     }
 
     /// Writes what is XML already.
-    pub fn raw(&mut self, text: &str) -> Result<(), PictureError> {
-        self.out.push_str(text)?;
-        Ok(())
+    pub fn raw(&mut self, text: &str) {
+        let written = self.out.push_str(text);
+        self.note(written);
     }
 
     /// A number as a text of its own.
-    pub fn numeral(
-        &mut self,
-        class: &str,
-        place: Place,
-        number: usize,
-    ) -> Result<(), PictureError> {
+    pub fn numeral(&mut self, class: &str, place: Place, number: usize) {
         let (x, y) = (place.x, place.y);
-        write!(
+        let written = write!(
             self.out,
             "<text class=\"{class}\" x=\"{x}\" y=\"{y}\">{number}</text>"
-        )?;
-        Ok(())
+        );
+        self.note(written);
     }
 
     /// Begins a group of that name, with a number behind it.
-    pub fn begin_group(&mut self, name: &str, number: usize) -> Result<(), PictureError> {
-        write!(self.out, "<g id=\"{name}-{number}\">")?;
-        Ok(())
+    pub fn begin_group(&mut self, name: &str, number: usize) {
+        let written = write!(self.out, "<g id=\"{name}-{number}\">");
+        self.note(written);
     }
 
-    pub fn end_group(&mut self) -> Result<(), PictureError> {
-        self.raw("</g>\n")
+    pub fn end_group(&mut self) {
+        self.raw("</g>\n");
     }
 
     /// The head of a picture of that size.
-    pub fn head(&mut self, size: Size) -> Result<(), PictureError> {
+    pub fn head(&mut self, size: Size) {
         let (width, height) = (size.width, size.height);
-        write!(
+        let written = writeln!(
             self.out,
-            "<svg xmlns=\"http://www.w3.org/2000/svg\" width=\"{width}\" height=\"{height}\" "
-        )?;
-        writeln!(self.out, "viewBox=\"0 0 {width} {height}\" role=\"img\">")?;
-        Ok(())
+            "<svg xmlns=\"http://www.w3.org/2000/svg\" width=\"{width}\" height=\"{height}\" viewBox=\"0 0 {width} {height}\" role=\"img\">"
+        );
+        self.note(written);
     }
 
     /// A text that is told where somebody points at what it stands in.
-    pub fn title(&mut self, text: &str) -> Result<(), PictureError> {
-        self.raw("<title>")?;
-        push_escaped(&mut self.out, text)?;
-        self.raw("</title>")
+    pub fn title(&mut self, text: &str) {
+        self.raw("<title>");
+        self.text(text);
+        self.raw("</title>");
+    }
+
+    fn text(&mut self, text: &str) {
+        let written = push_escaped(&mut self.out, text);
+        self.note(written);
     }
 
     /// A text in so many columns; one that is cut is told whole where somebody points at it.
-    pub fn label(
-        &mut self,
-        class: &str,
-        place: Place,
-        text: &str,
-        columns: usize,
-    ) -> Result<(), PictureError> {
+    pub fn label(&mut self, class: &str, place: Place, text: &str, columns: usize) {
         let (x, y) = (place.x, place.y);
-        write!(self.out, "<text class=\"{class}\" x=\"{x}\" y=\"{y}\">")?;
-        let drawn = cut_to(self.alloc, text, columns)?;
-        if drawn.is_cut {
-            self.title(text)?;
+        let written = write!(self.out, "<text class=\"{class}\" x=\"{x}\" y=\"{y}\">");
+        self.note(written);
+        match cut_to(self.alloc, text, columns) {
+            Ok(drawn) => self.cut(text, &drawn),
+            Err(_) => self.lacks_memory = true,
         }
-        push_escaped(&mut self.out, drawn.text.as_str())?;
-        self.raw("</text>\n")
+        self.raw("</text>\n");
     }
 
-    pub fn rect(&mut self, class: &str, place: Place, size: Size) -> Result<(), PictureError> {
+    /// What is drawn of a text.
+    fn cut(&mut self, text: &str, drawn: &Fitted) {
+        if drawn.is_cut {
+            self.title(text);
+        }
+        self.text(drawn.text.as_str());
+    }
+
+    pub fn rect(&mut self, class: &str, place: Place, size: Size) {
         let (x, y) = (place.x, place.y);
         let (width, height) = (size.width, size.height);
-        write!(self.out, "<rect class=\"{class}\" x=\"{x}\" y=\"{y}\" ")?;
-        writeln!(self.out, "width=\"{width}\" height=\"{height}\"/>")?;
-        Ok(())
+        let written = writeln!(
+            self.out,
+            "<rect class=\"{class}\" x=\"{x}\" y=\"{y}\" width=\"{width}\" height=\"{height}\"/>"
+        );
+        self.note(written);
     }
 
-    pub fn line(&mut self, class: &str, from: Place, to: Place) -> Result<(), PictureError> {
+    pub fn line(&mut self, class: &str, from: Place, to: Place) {
         let (x, y) = (from.x, from.y);
-        write!(self.out, "<line class=\"{class}\" x1=\"{x}\" y1=\"{y}\" ")?;
-        let (x, y) = (to.x, to.y);
-        writeln!(self.out, "x2=\"{x}\" y2=\"{y}\"/>")?;
-        Ok(())
+        let (right, down) = (to.x, to.y);
+        let written = writeln!(
+            self.out,
+            "<line class=\"{class}\" x1=\"{x}\" y1=\"{y}\" x2=\"{right}\" y2=\"{down}\"/>"
+        );
+        self.note(written);
     }
 
     /// A shape that was defined under that name.
-    pub fn stamp(&mut self, name: &str, place: Place) -> Result<(), PictureError> {
+    pub fn stamp(&mut self, name: &str, place: Place) {
         let (x, y) = (place.x, place.y);
-        writeln!(self.out, "<use href=\"#{name}\" x=\"{x}\" y=\"{y}\"/>")?;
-        Ok(())
+        let written = writeln!(self.out, "<use href=\"#{name}\" x=\"{x}\" y=\"{y}\"/>");
+        self.note(written);
     }
 }
 

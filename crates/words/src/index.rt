@@ -1,5 +1,6 @@
 //! The words of the command `index`.
 
+use crate::word::{OPTION, Word, with_options};
 use clap::builder::ValueParser;
 use clap::{Arg, ArgAction, ArgMatches, Command};
 use std::alloc::{AllocError, Global};
@@ -85,26 +86,6 @@ pub struct IndexWord<'a> {
     place: usize,
 }
 
-/// An option of the command.
-struct Word {
-    name: &'static str,
-    help: &'static str,
-    /// What stands for its value in the help; a flag has none.
-    value: Option<&'static str>,
-    is_required: bool,
-    action: ArgAction,
-    parser: ValueParser<'static>,
-}
-
-const OPTION: Word = Word {
-    name: "",
-    help: "",
-    value: None,
-    is_required: false,
-    action: ArgAction::Set,
-    parser: ValueParser::String,
-};
-
 static WORDS: [Word; 8] = [
     Word {
         name: "columns",
@@ -166,26 +147,11 @@ pub fn index_command<'a>(alloc: Global) -> Result<Command<'a>, AllocError> {
         .help("The file, or - for standard input")
         .required(true)
         .action(ArgAction::Set);
-    let mut command = Command::new(alloc, "index")
+    let command = Command::new(alloc, "index")
         .about("Builds indexes on the rows of a file, and prints what they give")
         .after_help(EXPLANATION)
         .arg(file)?;
-    for word in &WORDS {
-        command = command.arg(option(alloc, word))?;
-    }
-    Ok(command)
-}
-
-fn option<'a>(alloc: Global, word: &'static Word) -> Arg<'a> {
-    let arg = Arg::new(alloc, word.name)
-        .long(word.name)
-        .help(word.help)
-        .required(word.is_required)
-        .action(word.action);
-    match word.value {
-        Some(value) => arg.value_name(value).value_parser(word.parser),
-        None => arg,
-    }
+    with_options(alloc, command, &WORDS)
 }
 
 /// What was chosen; nothing where a required word is missing.

@@ -2,8 +2,10 @@
 #![tactic(auto)]
 
 mod index;
+mod word;
 
 use crate::index::{index_command, index_words};
+use crate::word::{OPTION, Word, with_options};
 use clap::builder::ValueParser;
 use clap::error::ErrorKind;
 use clap::{Arg, ArgAction, ArgMatches, Command, Error};
@@ -60,6 +62,32 @@ A bad record is answered by what is wrong with it, and the shell goes on. Beside
   quit         ends the shell, as the end of the input does
 
 Over a pipe the answers are the same, and each is sent on before the next line is read.";
+
+/// The options of a check.
+static OF_CHECKS: [Word; 1] = [Word {
+    name: "race",
+    help: "Looks at the script as that of a race, also where it has neither a build nor go",
+    action: ArgAction::SetTrue,
+    ..OPTION
+}];
+
+/// The options of a race.
+static OF_RACES: [Word; 2] = [
+    Word {
+        name: "workers",
+        help: "How many workers build, 1 to 16, each in a thread of its own",
+        value: Some("N"),
+        is_required: true,
+        parser: ValueParser::Unsigned(1, 16),
+        ..OPTION
+    },
+    Word {
+        name: "progress",
+        help: "Shows on the standard error how far the build is",
+        action: ArgAction::SetTrue,
+        ..OPTION
+    },
+];
 
 /// What the words ask for.
 #[derive(Drop)]
@@ -133,59 +161,56 @@ fn missing(alloc: Global) -> Result<Error, AllocError> {
 }
 
 fn command<'a>(alloc: Global) -> Result<Command<'a>, AllocError> {
+    let program = Command::new(alloc, "sfbuild")
+        .version(VERSION)
+        .about("Builds indexes of a table, on the rows of a file or as a script tells it to")
+        .after_help(EXAMPLE)
+        .subcommand_required(true);
     let replay = task_command(
         alloc,
         "replay",
         "Runs the records of a script one after the other, and prints an answer for each",
-    )?;
+    );
+    let program = with(program, replay)?;
     let picture = task_command(
         alloc,
         "picture",
         "Runs the records of a script one after the other, and writes a picture of that to the standard output, as SVG",
-    )?;
-    let race = Arg::new(alloc, "race")
-        .long("race")
-        .help("Looks at the script as that of a race, also where it has neither a build nor go")
-        .action(ArgAction::SetTrue);
+    );
+    let program = with(program, picture)?;
+    let program = with(program, check_command(alloc))?;
+    let program = with(program, race_command(alloc))?;
+    let program = with(program, Ok(shell_command(alloc)))?;
+    with(program, index_command(alloc))
+}
+
+/// The program with one more command.
+fn with<'a>(
+    program: Command<'a>,
+    command: Result<Command<'a>, AllocError>,
+) -> Result<Command<'a>, AllocError> {
+    let command = command?;
+    program.subcommand(command)
+}
+
+/// The command of a check.
+fn check_command<'a>(alloc: Global) -> Result<Command<'a>, AllocError> {
     let check = task_command(
         alloc,
         "check",
         "Runs nothing, and says whether all records of a script are good, or what is wrong with the first bad one",
-    )?
-    .arg(race)?;
-    Command::new(alloc, "sfbuild")
-        .version(VERSION)
-        .about("Builds indexes of a table, on the rows of a file or as a script tells it to")
-        .after_help(EXAMPLE)
-        .subcommand_required(true)
-        .subcommand(replay)?
-        .subcommand(picture)?
-        .subcommand(check)?
-        .subcommand(race_command(alloc)?)?
-        .subcommand(shell_command(alloc))?
-        .subcommand(index_command(alloc)?)
+    )?;
+    with_options(alloc, check, &OF_CHECKS)
 }
 
 /// The command of a race.
 fn race_command<'a>(alloc: Global) -> Result<Command<'a>, AllocError> {
-    let workers = Arg::new(alloc, "workers")
-        .long("workers")
-        .value_name("N")
-        .help("How many workers build, 1 to 16, each in a thread of its own")
-        .required(true)
-        .value_parser(ValueParser::Unsigned(1, 16))
-        .action(ArgAction::Set);
-    let progress = Arg::new(alloc, "progress")
-        .long("progress")
-        .help("Shows on the standard error how far the build is")
-        .action(ArgAction::SetTrue);
-    task_command(
+    let race = task_command(
         alloc,
         "race",
         "Runs the sessions of a script in threads of their own while a build runs beside them, and prints how it went",
-    )?
-    .arg(workers)?
-    .arg(progress)
+    )?;
+    with_options(alloc, race, &OF_RACES)
 }
 
 /// The command of a conversation.
