@@ -13,7 +13,7 @@ use builder_core::{Building, Ends, Live, Parts, Plan, Table, Worker};
 use building::Turn;
 use index_load::IndexLoad;
 use keybytes::Fault;
-use replay::Leases;
+use leased_core::Leases;
 use run_maker::StdSort;
 use run_spool::Spool;
 use spool_choice::SpoolChoice;
