@@ -25,9 +25,9 @@ use std::marker::Model;
 ///
 /// It is no `Drop`: [`LeasedCore::close`] gives the pages back.
 pub struct LeasedCore<T: Table> {
-    alloc: Global,
-    core: Core<SpoolOfKind, T>,
-    leases: Option<Leases>,
+    pub(crate) alloc: Global,
+    pub(crate) core: Core<SpoolOfKind, T>,
+    pub(crate) leases: Option<Leases>,
 }
 
 impl<T: Table> Model for LeasedCore<T> {
