@@ -5,7 +5,7 @@ use Rattle.build_work.proofs.LentBack.{all_back}
 use Rattle.build_tests.proofs.lent.by_one.Goals as goal
 
 pub returns : goal.returns
-returns g c = λ rings rest back.
+returns c = λ rings rest back.
     let workers : List WorkerValue = c.args.workers.now.items in
     let it : WorkerValue = c.index_mut.result.now in
     let at = at_index workers c.args.number it c.index_mut.ensures.value (omega (arith, c.if-number-len.false)) in
