@@ -46,6 +46,12 @@ pub record PartsValue : Type 0 where
   pub pages : List RingId
   pub sides : List RingId
 
+-- a core whose name was taken off: what it is under a name, and the rings that the name has to be of
+pub record ShutValue : Type 0 where
+  pub core : CoreState
+  pub pages : List RingId
+  pub sides : List RingId
+
 -- what callers see of a table and of what stands beside it
 abbrev pub core_state : LiveValue → BuildingValue → CoreState
 core_state live building = record {

@@ -1,5 +1,6 @@
 //! Workers that are lent, as threads are: each looks into its ring and takes what it sees there, by itself.
-ghost use Rattle.std.specs.Prelude.{◌≡◌, true, OnOk};
+ghost use Rattle.std.specs.Prelude.{◌≡◌, List, true, OnOk};
+ghost use Rattle.side_file.specs.Ends.{RingId};
 ghost use Rattle.building.specs.WorkerValue.{SameWorker};
 ghost use Rattle.build_work.specs.BuildingValue.{BuildingValue};
 ghost use Rattle.build_work.specs.Lent.{AreBack, CanLend};
@@ -90,7 +91,7 @@ const BACK: [(Back, Result<usize, Fault>); 12] = [
     (Back::Follow, Ok(7)),
 ];
 
-fn by_worker<T: Table>(worker: &mut Worker<ListSpool, T>, what: Alone) -> Result<usize, Fault>
+fn by_worker(worker: &mut Worker<ListSpool>, what: Alone) -> Result<usize, Fault>
     ensures { SameWorker worker.old worker.new }
 {
     match what {
@@ -100,12 +101,8 @@ fn by_worker<T: Table>(worker: &mut Worker<ListSpool, T>, what: Alone) -> Result
     }
 }
 
-fn by_one<T: Table>(
-    workers: &mut Vec<Worker<ListSpool, T>>,
-    number: usize,
-    what: Alone,
-) -> Result<usize, Fault>
-    ensures { (rest : BuildingValue) → AreBack rest workers.old.items → AreBack rest workers.new.items }
+fn by_one(workers: &mut Vec<Worker<ListSpool>>, number: usize, what: Alone) -> Result<usize, Fault>
+    ensures { (rings : List RingId) (rest : BuildingValue) → AreBack rings rest workers.old.items → AreBack rings rest workers.new.items }
 {
     if number >= workers.len() {
         return Err(Fault::BadCount);
@@ -134,10 +131,10 @@ fn updated<T: Table>(alloc: Global, live: &mut Live<T>, number: i64) -> Result<u
 fn answer_while_lent<T: Table>(
     alloc: Global,
     live: &mut Live<T>,
-    workers: &mut Vec<Worker<ListSpool, T>>,
+    workers: &mut Vec<Worker<ListSpool>>,
     step: Lent,
 ) -> Result<usize, Fault>
-    ensures { (rest : BuildingValue) → AreBack rest workers.old.items → AreBack rest workers.new.items }
+    ensures { (rings : List RingId) (rest : BuildingValue) → AreBack rings rest workers.old.items → AreBack rings rest workers.new.items }
 {
     match step {
         Lent::Scan(range, worker) => scanned(live, range, worker, PageImage::new(alloc)?),
@@ -150,9 +147,9 @@ fn answer_while_lent<T: Table>(
 fn other_while_lent<T: Table>(
     alloc: Global,
     live: &mut Live<T>,
-    workers: &mut Vec<Worker<ListSpool, T>>,
+    workers: &mut Vec<Worker<ListSpool>>,
 ) -> Option<(usize, usize)>
-    ensures { (rest : BuildingValue) → AreBack rest workers.old.items → AreBack rest workers.new.items }
+    ensures { (rings : List RingId) (rest : BuildingValue) → AreBack rings rest workers.old.items → AreBack rings rest workers.new.items }
 {
     for number in 0..LENT.len() {
         let (step, told) = LENT[number];

@@ -6,15 +6,10 @@ use Rattle.std.proofs.Math.Nat.{suc-mul}
 use Rattle.std.proofs.lemmas.List.{drop_more, length-drop, length-map, map-append, take-append-drop, take_more}
 use Rattle.std.proofs.lemmas.Option.{same_Some}
 use Rattle.keybytes.specs.Keys.{KeySpecValue}
-use Rattle.side_file.specs.Ends.{RingId}
-use Rattle.building.specs.IntakeValue.{IntakeValue}
 use Rattle.building.specs.SpoolValue.{SpoolValue}
 use Rattle.building.specs.WorkerValue.{WorkerValue}
-use Rattle.build_work.specs.BuildingValue.{intakes}
 use Rattle.build_work.specs.Keeping.{AreWorkers, IsWorkerAt}
 use Rattle.build_work.specs.Holding.{workers_spools}
-use Rattle.build_work.specs.Rings.{take_rings}
-use Rattle.building.proofs.Places.{map_at}
 
 -- the next one is taken from a list, of which n were taken before
 pub one_taken :
@@ -25,20 +20,6 @@ one_taken xs rest n x is =
     let here : get_or xs n x ≡ x = cc in
     let left : drop (n + 1) xs ≡ rest = cc in
     (take_more xs n x less ∙ ap (λ y. take n xs ++ y ∷ []) here, left)
-
--- the first behind all others
-at_next : {X : Type 0} (xs ys : List X) (n : ℕ) → n ≡ length xs → slice_get (xs ++ ys) n ≡ slice_get ys 0
-at_next [] ys n is = ap (slice_get ys) is
-at_next (x ∷ xs) ys n is = ap (slice_get (x ∷ (xs ++ ys))) is ∙ at_next xs ys (length xs) refl
-
--- the first idle ring is the next worker's
-pub next_ring :
-    (workers : List WorkerValue) (idle : List IntakeValue) (it : IntakeValue) (rings : List RingId) (n : ℕ) → take_rings (intakes workers idle) ≡ rings
-    → slice_get idle 0 ≡ Some it → n ≡ length workers → slice_get rings n ≡ Some it.end.ring
-next_ring workers idle it rings n all first is =
-    let own : WorkerValue → IntakeValue = λ worker. worker.intake in
-    ap (λ (rs : List RingId). slice_get rs n) (sym all)
-    ∙ map_at (λ (i : IntakeValue). i.end.ring) (intakes workers idle) n it (at_next (map own workers) idle n (is ∙ sym (length-map workers own)) ∙ first)
 
 -- one worker more has the next spools
 pub more_lent :

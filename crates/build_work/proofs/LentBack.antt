@@ -21,6 +21,7 @@ use Rattle.build_work.specs.Keeping.{AreWorkers, IsKept, KeepsLaws, KeepsWork}
 use Rattle.build_work.specs.Lent.{AreBack, CanLend, IsBack, StaysWithout, lowest_fault}
 use Rattle.build_work.specs.Rings.{AreTakeEnds, take_rings}
 use Rattle.build_work.proofs.Kept.{scanning_kept}
+use Rattle.build_work.proofs.Looks.{ring_at}
 use Rattle.build_work.proofs.OneWorker.{still_fine, still_scans, work_kept}
 use Rattle.building.proofs.Places.{all_at, as_long, at_set, mapped}
 
@@ -73,12 +74,15 @@ spools_many specs workers own = flat_many (λ (w : WorkerValue). w.spools) (leng
 
 -- of workers that go on each could be back
 pub each_back :
-    (build : ℕ) (specs : List KeySpecValue) (workers : List WorkerValue) (rings : List RingId) → AreWorkers build specs false workers
-    → All (KeepsLaws rings) workers → (k : ℕ) (worker : WorkerValue) → slice_get workers k ≡ Some worker → IsBack build specs k worker
-each_back build specs workers rings placed laws k worker at =
+    (build : ℕ) (specs : List KeySpecValue) (workers : List WorkerValue) (rings : List RingId)
+    → ((k : ℕ) (worker : WorkerValue) → slice_get workers k ≡ Some worker → slice_get rings k ≡ Some worker.intake.end.ring)
+    → AreWorkers build specs false workers → All (KeepsLaws rings) workers
+    → (k : ℕ) (worker : WorkerValue) → slice_get workers k ≡ Some worker → IsBack rings build specs k worker
+each_back build specs workers rings their placed laws k worker at =
     let is = placed k worker at in
     record {
       number = is.number;
+      ring = their k worker at;
       of_build = is.of_build;
       specs_are = is.specs_are;
       has_them = is.spools_are;
@@ -89,7 +93,7 @@ each_back build specs workers rings placed laws k worker at =
 pub record IsLent (page_rings entry_rings : List RingId) (seen : BuildingValue) (work : WorkValue) : Type 0 where
   pub none : seen.spools ≡ []
   pub all : length seen.workers + length seen.idle ≡ 16
-  pub back : (k : ℕ) (worker : WorkerValue) → slice_get seen.workers k ≡ Some worker → IsBack work.build work.specs k worker
+  pub back : (k : ℕ) (worker : WorkerValue) → slice_get seen.workers k ≡ Some worker → IsBack page_rings work.build work.specs k worker
   pub stays : StaysWithout page_rings entry_rings seen.idle seen.sides work
   -- there is room for their spools where there was room for all
   pub many : length (all_spools seen.workers seen.spools) ≡ (16 - length seen.idle) * length work.specs
@@ -103,7 +107,8 @@ is_lent page_rings entry_rings old seen work same runs can keeps are laws =
     let scans = still_scans old seen work can.work same runs can.runs can.fine can.scans keeps in
     let kept = work_kept old seen work can.work same runs can.runs can.fine can.scans keeps in
     let placed = subst (λ (handed : Bool). AreWorkers work.build work.specs handed seen.workers) scans kept.placed in
-    let each = each_back work.build work.specs seen.workers page_rings placed laws in
+    let their = ring_at page_rings entry_rings seen.workers seen.idle seen.sides are in
+    let each = each_back work.build work.specs seen.workers page_rings their placed laws in
     let there = all_there page_rings entry_rings seen.workers seen.idle seen.sides are in
     record {
       none = kept.lent scans;
@@ -127,14 +132,12 @@ fronts f (x ∷ xs) (y ∷ ys) at = ap₂ ◌∷◌ (same_Some (f x) y (sym (at 
 pub ends_back :
     (page_rings entry_rings : List RingId) (workers : List WorkerValue) (idle : List IntakeValue) (sides : List (TakeEnd Entry)) (work : WorkValue)
     → StaysWithout page_rings entry_rings idle sides work → length workers + length idle ≡ 16
-    → ((k : ℕ) (worker : WorkerValue) → slice_get workers k ≡ Some worker → worker.number ≡ k) → All (KeepsLaws page_rings) workers
+    → ((k : ℕ) (worker : WorkerValue) → slice_get workers k ≡ Some worker → slice_get page_rings k ≡ Some worker.intake.end.ring)
     → AreTakeEnds page_rings entry_rings (intakes workers idle) sides
-ends_back page_rings entry_rings workers idle sides work stays all numbered laws =
+ends_back page_rings entry_rings workers idle sides work stays all their =
     let own : WorkerValue → RingId = λ w. w.intake.end.ring in
     let intake : WorkerValue → IntakeValue = λ w. w.intake in
-    let front : map own workers ≡ take (length workers) page_rings =
-    fronts own workers page_rings (λ k worker at.
-    ap (slice_get page_rings) (sym (numbered k worker at)) ∙ (all_at (KeepsLaws page_rings) workers k worker laws at).ring) in
+    let front : map own workers ≡ take (length workers) page_rings = fronts own workers page_rings their in
     let place : 16 - length idle ≡ length workers = omega (arith, all) in
     record {
       intakes_are = rings_of workers idle
@@ -156,7 +159,7 @@ none_stopped (w ∷ ws) none (suc k) worker at = none_stopped ws (both_none w.fa
 pub work_back :
     (page_rings entry_rings : List RingId) (workers : List WorkerValue) (idle : List IntakeValue) (sides : List (TakeEnd Entry)) (work : WorkValue)
     → StaysWithout page_rings entry_rings idle sides work
-    → ((k : ℕ) (worker : WorkerValue) → slice_get workers k ≡ Some worker → IsBack work.build work.specs k worker)
+    → ((k : ℕ) (worker : WorkerValue) → slice_get workers k ≡ Some worker → IsBack page_rings work.build work.specs k worker)
     → KeepsWork workers sides [] (Some (record work { spoiled = lowest_fault workers }))
 work_back page_rings entry_rings workers idle sides work stays back = λ fine.
     let on : IsKept workers sides [] work =
@@ -181,11 +184,14 @@ work_back page_rings entry_rings workers idle sides work stays back = λ fine.
     }
 
 -- a thread hands back the worker that it was lent
-pub same_back : (build : ℕ) (specs : List KeySpecValue) (place : ℕ) (old new : WorkerValue) → SameWorker old new → IsBack build specs place old → IsBack build specs place new
-same_back build specs place old new same is =
+pub same_back :
+    (rings : List RingId) (build : ℕ) (specs : List KeySpecValue) (place : ℕ) (old new : WorkerValue) → SameWorker old new → IsBack rings build specs place old
+    → IsBack rings build specs place new
+same_back rings build specs place old new same is =
     let stake : SpoolValue → _ = λ s. s.stake in
     record {
       number = same.number ∙ is.number;
+      ring = is.ring ∙ ap Some (sym same.ring);
       of_build = same.build ∙ is.of_build;
       specs_are = same.specs ∙ is.specs_are;
       has_them = same.handed ∙ is.has_them;
@@ -194,14 +200,14 @@ same_back build specs place old new same is =
 
 -- so all are back, where one of them did something by itself
 pub all_back :
-    (rest : BuildingValue) (workers : List WorkerValue) (k : ℕ) (it after : WorkerValue) → slice_get workers k ≡ Some it → SameWorker it after → AreBack rest workers
-    → AreBack rest (set workers k after)
-all_back rest workers k it after at same back = record {
+    (rings : List RingId) (rest : BuildingValue) (workers : List WorkerValue) (k : ℕ) (it after : WorkerValue) → slice_get workers k ≡ Some it → SameWorker it after
+    → AreBack rings rest workers → AreBack rings rest (set workers k after)
+all_back rings rest workers k it after at same back = record {
   work = back.work;
   runs = back.runs;
   all = ap (λ n. n + length rest.idle) (length-set workers k after) ∙ back.all;
   each = λ place worker there. elim (at_set workers k after place worker there) [
-    | inl this ↦ rw (this.1, this.0) (same_back back.work.build back.work.specs k it after same (back.each k it at))
+    | inl this ↦ rw (this.1, this.0) (same_back rings back.work.build back.work.specs k it after same (back.each k it at))
     | inr other ↦ back.each place worker other.1
   ];
 }

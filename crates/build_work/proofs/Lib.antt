@@ -15,6 +15,7 @@ pub mod LoadsDone
 pub mod LoadsLent
 pub mod Looked
 pub mod Looks
+pub mod Numbered
 pub mod OneWorker
 pub mod Positions
 pub mod SideEnds

@@ -6,9 +6,10 @@ use Rattle.build_work.specs.BuildingValue.{WorkValue, IsUnloaded, work_state, in
 use Rattle.build_work.specs.Holding.{HaveColumns, all_spools, workers_spools}
 use Rattle.build_work.specs.Rings.{AreTakeEnds, unseen}
 use Rattle.build_work.proofs.AtWork.{states_same}
-use Rattle.build_work.specs.Keeping.{KeepsWork}
+use Rattle.build_work.specs.Keeping.{AreNumbered, KeepsWork}
 use Rattle.build_work.proofs.Kept.{looked_kept}
 use Rattle.build_work.proofs.Looks.{ends_same, rings_looked}
+use Rattle.build_work.proofs.Numbered.{numbered_looked}
 use Rattle.std.proofs.lemmas.List.{map-set, nil_from_length}
 use Rattle.building.specs.Turns.{HasLooked}
 use Rattle.side_file.specs.Ends.{RingId}
@@ -58,10 +59,10 @@ pub beside_looked :
     (pages sides : List RingId) (old new : List WorkerValue) (idle : List IntakeValue) (ends : List (TakeEnd Entry)) (home : List SpoolValue) (idle_room room : ℕ)
     (work : Option WorkValue) (given : Bool) (Ended : Type 0) → map unseen new ≡ map unseen old
     → AreTakeEnds pages sides (intakes old idle) ends × (16 ≤ idle_room) × (length (all_spools old home) ≤ room) × (work ≡ None → old ≡ [])
-    × (given ≡ false → work ≡ None) × Ended × KeepsWork old ends home work
+    × (given ≡ false → work ≡ None) × Ended × KeepsWork old ends home work × AreNumbered old
     → AreTakeEnds pages sides (intakes new idle) ends × (16 ≤ idle_room) × (length (all_spools new home) ≤ room) × (work ≡ None → new ≡ [])
-    × (given ≡ false → work ≡ None) × Ended × KeepsWork new ends home work
-beside_looked pages sides old new idle ends home idle_room room work given Ended same (are, idle_fits, fits, no_work, not_given, ended, kept) =
+    × (given ≡ false → work ≡ None) × Ended × KeepsWork new ends home work × AreNumbered new
+beside_looked pages sides old new idle ends home idle_room room work given Ended same (are, idle_fits, fits, no_work, not_given, ended, kept, numbered) =
     let none : old ≡ [] → new ≡ [] = λ e. let long = as_long unseen unseen new old same in nil_from_length new (omega (arith, long, ap length e)) in (
       ends_same pages sides old new idle ends are (rings_looked old new same),
       idle_fits,
@@ -70,6 +71,7 @@ beside_looked pages sides old new idle ends home idle_room room work given Ended
       not_given,
       ended,
       looked_kept old new ends home work same kept,
+      numbered_looked old new same numbered,
     )
 
 -- a worker that looked into its ring alone is as it was but for what it has seen

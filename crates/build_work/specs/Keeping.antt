@@ -42,9 +42,17 @@ pub record IsIndexOf (build : ℕ) (spec : KeySpecValue) (workers : List WorkerV
   pub of_spec : (built : BuiltValue) → index.built ≡ Some built → built.unique ≡ spec.unique
   pub loaded : (built : BuiltValue) → index.built ≡ Some built → ArePairsOf spec workers (told_to build end.received) built.pairs
 
+-- each worker has the number of its place
+abbrev pub AreNumbered : List WorkerValue → Type 0
+AreNumbered workers = (place : ℕ) (worker : WorkerValue) → slice_get workers place ≡ Some worker → worker.number ≡ place
+
+-- the worker has the ring of its number, of these
+abbrev pub HasItsRing : List RingId → WorkerValue → Type 0
+HasItsRing page_rings worker = slice_get page_rings worker.number ≡ Some worker.intake.end.ring
+
 -- what a worker of that table keeps, whatever it was asked
 pub record KeepsLaws (page_rings : List RingId) (worker : WorkerValue) : Type 0 where
-  pub ring : slice_get page_rings worker.number ≡ Some worker.intake.end.ring
+  pub ring : HasItsRing page_rings worker
   pub begun : length worker.maker.begun ≡ length worker.maker.specs
   pub columns : All (λ spec. spec.kinds ≡ worker.maker.schema) worker.maker.specs
   pub counting : worker.fault ≡ None → IsCounting worker.intake worker.maker

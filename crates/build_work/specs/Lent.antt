@@ -23,20 +23,21 @@ pub record CanLend (building : BuildingValue) : Type 0 where
   pub fine : work.spoiled ≡ None
   pub scans : work.handed ≡ false
 
--- the worker of a place of that build of these indexes, with its spools, whether it goes on or was stopped
-pub record IsBack (build : ℕ) (specs : List KeySpecValue) (place : ℕ) (worker : WorkerValue) : Type 0 where
+-- the worker of a place of that build of these indexes, with the ring of its place and with its spools, whether it goes on or was stopped
+pub record IsBack (page_rings : List RingId) (build : ℕ) (specs : List KeySpecValue) (place : ℕ) (worker : WorkerValue) : Type 0 where
   pub number : worker.number ≡ place
+  pub ring : slice_get page_rings place ≡ Some worker.intake.end.ring
   pub of_build : worker.intake.build ≡ build
   pub specs_are : worker.maker.specs ≡ specs
   pub has_them : worker.handed ≡ false
   pub own : HasOwnSpools specs worker
 
--- all that were lent are back, each at its place
-pub record AreBack (building : BuildingValue) (workers : List WorkerValue) : Type 0 where
+-- all that were lent are back, each at its place, with its ring
+pub record AreBack (page_rings : List RingId) (building : BuildingValue) (workers : List WorkerValue) : Type 0 where
   pub work : WorkValue
   pub runs : building.work ≡ Some work
   pub all : length workers + length building.idle ≡ 16
-  pub each : (place : ℕ) (worker : WorkerValue) → slice_get workers place ≡ Some worker → IsBack work.build work.specs place worker
+  pub each : (place : ℕ) (worker : WorkerValue) → slice_get workers place ≡ Some worker → IsBack page_rings work.build work.specs place worker
 
 -- no more came back than were lent: not more workers, and not more spools
 pub record AreNoMore (building : BuildingValue) (workers : List WorkerValue) : Type 0 where

@@ -31,7 +31,7 @@ use std::mem::replace;
 /// It is no `Drop`: whoever has it takes the spools out again, and they are ended then.
 pub struct Building<S: Spool, T: Table> {
     /// The workers of the build, numbered from 0.
-    pub(crate) workers: Vec<Worker<S, T>>,
+    pub(crate) workers: Vec<Worker<S>>,
     /// The intakes of the rings that have no worker, those behind the workers'.
     pub(crate) idle: Vec<Intake>,
     /// The ends of the side-files' rings that take, one for each index that a build may have.
@@ -53,7 +53,7 @@ impl<S: Spool, T: Table> Model for Building<S, T> {
     ghost use Rattle.building.specs.SpoolValue.{spool_value};
     ghost use Rattle.building.specs.TakeEnd.{take_end};
     ghost use Rattle.build_work.specs.Holding.{all_spools};
-    ghost use Rattle.build_work.specs.Keeping.{KeepsWork};
+    ghost use Rattle.build_work.specs.Keeping.{AreNumbered, KeepsWork};
     ghost use Rattle.build_work.specs.Rings.{AreTakeEnds};
 
     ghost view = { λ building. record {
@@ -72,7 +72,8 @@ impl<S: Spool, T: Table> Model for Building<S, T> {
         × (building.given ≡ false → building.work ≡ None)
         × (building.given ≡ true → building.work ≡ None → All S.ended building.spools.items)
         × KeepsWork building.workers.items (map take_end building.side_ends.items) (map (spool_value S.runs S.open_run S.stake) building.spools.items)
-        building.work };
+        building.work
+        × AreNumbered building.workers.items };
 }
 
 impl<S: Spool, T: Table> Building<S, T> {
@@ -191,7 +192,7 @@ impl<S: Spool, T: Table> Building<S, T> {
         alloc: Global,
         work: Work,
         equipment: Vec<Equipment<S>>,
-        workers: Vec<Worker<S, T>>,
+        workers: Vec<Worker<S>>,
         home: Vec<S>,
     )
         requires idle { self.old.workers ≡ [] }
@@ -246,7 +247,7 @@ impl<S: Spool, T: Table> Building<S, T> {
         let Some(work) = &mut self.work else {
             unreachable!()
         };
-        laws_of(&self.workers);
+        laws_of::<S, T>(&self.workers);
         bring_home(&mut self.workers, &mut self.spools);
         work.handed = true;
     }

@@ -4,12 +4,11 @@ ghost use Rattle.std.specs.Vec.Iter.{into_iter_items};
 ghost use Rattle.building.specs.SpoolValue.{spool_value};
 ghost use Rattle.build_work.specs.BuildingValue.{intakes};
 ghost use Rattle.build_work.specs.Holding.{fresh_maker, workers_spools};
-ghost use Rattle.build_work.specs.Rings.{take_rings};
 ghost use Rattle.build_work.specs.Equipped.{HasOneMore, HasOwnSpools, HasRoomFor, IsFresh, IsNewMaker};
 ghost use Rattle.build_work.specs.Keeping.{AreWorkers};
 
 use crate::work::Work;
-use building::{Intake, Table, Worker};
+use building::{Intake, Worker};
 use keybytes::{Fault, KeySpec, Schema, copied_specs};
 use run_maker::Maker;
 use run_spool::Spool;
@@ -59,17 +58,16 @@ fn one<S: Spool>(alloc: Global, schema: &Schema, specs: &[KeySpec]) -> Result<Eq
 
 /// Makes the workers for this work, numbered from 0: each gets the next ring, and as many of the spools as there are indexes. The
 /// rings have been emptied for the build, and the spools are empty. Takes no memory.
-pub fn equip<S: Spool, T: Table>(
+pub fn equip<S: Spool>(
     alloc: Global,
     work: &Work,
     equipment: Vec<Equipment<S>>,
     spools: Vec<S>,
     idle: &mut Vec<Intake>,
-    workers: &mut Vec<Worker<S, T>>,
+    workers: &mut Vec<Worker<S>>,
 )
     requires none { workers.old.items ≡ [] }
     requires room { length equipment.items ≤ vec_capacity workers.old }
-    requires rings { take_rings idle.old.items ≡ T.pages }
     requires enough { length equipment.items ≤ length idle.old.items }
     requires fresh { All (IsFresh work.now.build) idle.old.items }
     requires makers { All (λ it. IsNewMaker work.now.specs it.maker) equipment.items }
@@ -90,15 +88,14 @@ pub fn equip<S: Spool, T: Table>(
 }
 
 /// Makes the next worker.
-fn add_one<S: Spool, T: Table>(
+fn add_one<S: Spool>(
     alloc: Global,
     work: &Work,
     it: Equipment<S>,
     rest: &mut IntoIter<S>,
     idle: &mut Vec<Intake>,
-    workers: &mut Vec<Worker<S, T>>,
+    workers: &mut Vec<Worker<S>>,
 )
-    requires rings { take_rings (intakes workers.old.items idle.old.items) ≡ T.pages }
     requires next { 0 < length idle.old.items }
     requires fresh { All (IsFresh work.now.build) idle.old.items }
     requires room { length workers.old.items < vec_capacity workers.old }

@@ -21,7 +21,7 @@ use std::marker::{Model, PhantomData};
 /// A [`Building`] whose workers are lent.
 ///
 /// It is no `Drop`, so nobody lets it go unless he forgets it, with the ends of rings that it has. Where all workers are back at their places,
-/// each with its spools, also those that were stopped, [`WithoutWorkers::gather`] makes a [`Building`] of it again. Where a thread let its
+/// each with its ring and its spools, also those that were stopped, [`WithoutWorkers::gather`] makes a [`Building`] of it again. Where a thread let its
 /// worker go, or called [`Worker::hand_over`] or [`Worker::into_parts`], the build can only be given up: [`WithoutWorkers::give_up`] ends
 /// the spools that came back. Lost are then the ends of the rings that did not come back, and spools that their thread didn't hand out.
 pub struct WithoutWorkers<S: Spool, T: Table> {
@@ -61,11 +61,11 @@ impl<S: Spool, T: Table> Model for WithoutWorkers<S, T> {
 impl<S: Spool, T: Table> Building<S, T> {
     /// Lends the workers of the build, each to a thread of its own: there a worker takes what it sees in its ring, and closes its runs, without
     /// any lock. [`WithoutWorkers::gather`] takes them back. Takes no memory.
-    pub fn lend(self) -> (Vec<Worker<S, T>>, WithoutWorkers<S, T>)
+    pub fn lend(self) -> (Vec<Worker<S>>, WithoutWorkers<S, T>)
         requires { CanLend self }
         ensures workers { result.0.items ≡ self.workers }
         ensures rest { result.1 ≡ record self { workers = [] } }
-        ensures back { AreBack result.1 result.0.items }
+        ensures back { AreBack T.pages result.1 result.0.items }
     {
         let Building {
             workers,
@@ -77,7 +77,7 @@ impl<S: Spool, T: Table> Building<S, T> {
             of,
         } = self;
         let Some(work) = work else { unreachable!() };
-        laws_of(&workers);
+        laws_of::<S, T>(&workers);
         let rest = WithoutWorkers {
             idle,
             side_ends,
@@ -91,8 +91,8 @@ impl<S: Spool, T: Table> Building<S, T> {
 
 impl<S: Spool, T: Table> WithoutWorkers<S, T> {
     /// Takes the workers back, in the order in which they were lent. The fault of the lowest that was stopped spoils the build. Takes no memory.
-    pub fn gather(self, workers: Vec<Worker<S, T>>) -> Building<S, T>
-        requires { AreBack self workers.items }
+    pub fn gather(self, workers: Vec<Worker<S>>) -> Building<S, T>
+        requires { AreBack T.pages self workers.items }
         ensures { IfSome self.work (λ work. result ≡ record self {
           workers = workers.items;
           work = Some (record work { spoiled = lowest_fault workers.items });
@@ -105,7 +105,6 @@ impl<S: Spool, T: Table> WithoutWorkers<S, T> {
             mut work,
             of,
         } = self;
-        laws_of(&workers);
         work.spoiled = first_stopped(&workers);
         Building {
             workers,
@@ -120,7 +119,7 @@ impl<S: Spool, T: Table> WithoutWorkers<S, T> {
 
     /// Gives the work of the build up, with the workers that came back, whatever threads did with them: answered with the intakes that are
     /// left, theirs first, with the ends of the side-files' rings, and with the spools that came back, ended. Takes no memory.
-    pub fn give_up(self, workers: Vec<Worker<S, T>>) -> (Vec<Intake>, Vec<Consumer<Entry>>, Vec<S>)
+    pub fn give_up(self, workers: Vec<Worker<S>>) -> (Vec<Intake>, Vec<Consumer<Entry>>, Vec<S>)
         requires { AreNoMore self workers.items }
         ensures intakes { result.0.items ≡ intakes workers.items self.idle }
         ensures sides { map take_end result.1.items ≡ self.sides }
@@ -154,7 +153,7 @@ impl<S: Spool, T: Table> WithoutWorkers<S, T> {
 }
 
 /// The fault of the lowest worker that was stopped.
-fn first_stopped<S: Spool, T: Table>(workers: &[Worker<S, T>]) -> Option<Fault>
+fn first_stopped<S: Spool>(workers: &[Worker<S>]) -> Option<Fault>
     ensures { result ≡ lowest_fault workers.now }
 {
     for worker in workers {

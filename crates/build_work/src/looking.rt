@@ -29,7 +29,7 @@ impl<S: Spool, T: Table> Building<S, T> {
         ensures each { All (KeepsLaws T.pages) self.now.workers }
     {
         let _kept = &self.given;
-        laws_of(&self.workers);
+        laws_of::<S, T>(&self.workers);
     }
 
     /// How many copies wait for a worker of the build that runs. Takes no memory.
@@ -46,7 +46,7 @@ impl<S: Spool, T: Table> Building<S, T> {
     {
         // That there are few workers is known once their fields are reached.
         let _idle = &self.idle;
-        waiting(pages, &mut self.workers, worker)
+        waiting::<S, T>(pages, &mut self.workers, worker)
     }
 
     /// The lowest worker of the build that runs that has a copy in its ring, or a run open. It has then seen all that it hasn't taken. Takes no memory.
@@ -63,8 +63,8 @@ impl<S: Spool, T: Table> Building<S, T> {
     {
         // That there are few workers is known once their fields are reached.
         let _idle = &self.idle;
-        let unsealed = first_unsealed(pages, &mut self.workers);
-        laws_of(&self.workers);
+        let unsealed = first_unsealed::<S, T>(pages, &mut self.workers);
+        laws_of::<S, T>(&self.workers);
         unsealed
     }
 

@@ -5,13 +5,13 @@ ghost use Rattle.build_work.specs.BuildingValue.{intakes};
 ghost use Rattle.build_work.specs.Holding.{all_spools};
 ghost use Rattle.build_work.specs.Working.{handed_over};
 
-use building::{Intake, Table, Worker};
+use building::{Intake, Worker};
 use index_load::end_spools;
 use run_spool::Spool;
 
 /// The workers hand their spools over and give their rings back, and all spools are ended. There is room for both.
-pub fn take_back<S: Spool, T: Table>(
-    workers: &mut Vec<Worker<S, T>>,
+pub fn take_back<S: Spool>(
+    workers: &mut Vec<Worker<S>>,
     spools: &mut Vec<S>,
     idle: &mut Vec<Intake>,
 )
@@ -32,7 +32,7 @@ pub fn take_back<S: Spool, T: Table>(
 }
 
 /// The workers hand their spools over, which come behind those that are there, in order. There is room for them.
-pub fn bring_home<S: Spool, T: Table>(workers: &mut Vec<Worker<S, T>>, spools: &mut Vec<S>)
+pub fn bring_home<S: Spool>(workers: &mut Vec<Worker<S>>, spools: &mut Vec<S>)
     requires { length (all_spools workers.old.items (map (spool_value S.runs S.open_run S.stake) spools.old.items)) ≤ vec_capacity spools.old }
     ensures workers { workers.new.items ≡ map handed_over workers.old.items }
     ensures spools { map (spool_value S.runs S.open_run S.stake) spools.new.items
@@ -57,7 +57,7 @@ fn put_behind<S: Spool>(own: Vec<S>, spools: &mut Vec<S>)
 
 /// The workers give their rings back, before those that are idle. There is room for them. They have handed their spools over before: what
 /// spools they still have are lost.
-pub fn free_rings<S: Spool, T: Table>(workers: &mut Vec<Worker<S, T>>, idle: &mut Vec<Intake>)
+pub fn free_rings<S: Spool>(workers: &mut Vec<Worker<S>>, idle: &mut Vec<Intake>)
     requires { length (intakes workers.old.items idle.old.items) ≤ vec_capacity idle.old }
     ensures workers { workers.new.items ≡ [] }
     ensures idle { idle.new.items ≡ intakes workers.old.items idle.old.items }

@@ -5,7 +5,7 @@ ghost use Rattle.building.specs.IntakeValue.{IntakeValue};
 ghost use Rattle.building.specs.WorkerValue.{WorkerValue};
 ghost use Rattle.building.specs.declared.copied.Copied.{Copied};
 ghost use Rattle.build_work.specs.BuildingValue.{intakes};
-ghost use Rattle.build_work.specs.Keeping.{KeepsLaws};
+ghost use Rattle.build_work.specs.Keeping.{HasItsRing, KeepsLaws};
 ghost use Rattle.build_work.specs.Rings.{put_rings, take_rings, all_sent, all_free, begun_on, AreLooked, AreSealed, FirstAreSealed, HasSeenAll, IsUnsealed, IsSealed};
 
 use building::{Intake, PagePutter, Table, Worker};
@@ -28,7 +28,7 @@ pub(crate) fn restart_all(pages: &mut Vec<PagePutter>, intakes: &mut Vec<Intake>
 /// How many copies wait for a worker. Both ends of its ring then know all that there is to know of it.
 pub(crate) fn waiting<S: Spool, T: Table>(
     pages: &mut Vec<PagePutter>,
-    workers: &mut Vec<Worker<S, T>>,
+    workers: &mut Vec<Worker<S>>,
     worker: usize,
 ) -> usize
     requires rings { put_rings pages.old.items ≡ T.pages }
@@ -41,14 +41,13 @@ pub(crate) fn waiting<S: Spool, T: Table>(
         → w.intake.end.received ++ w.intake.end.known ≡ end.sent }
     ensures free { (end : PutEnd Copied) → slice_get pages.new.items worker ≡ Some end → 4 ≤ end.free + result }
 {
-    workers[worker].laws();
     workers[worker].waiting(&mut pages[worker])
 }
 
 /// Whether a worker has a copy in its ring, or a run open.
 fn is_unsealed<S: Spool, T: Table>(
     pages: &mut Vec<PagePutter>,
-    workers: &mut Vec<Worker<S, T>>,
+    workers: &mut Vec<Worker<S>>,
     worker: usize,
 ) -> bool
     requires rings { put_rings pages.old.items ≡ T.pages }
@@ -61,13 +60,13 @@ fn is_unsealed<S: Spool, T: Table>(
     ensures sealed { result ≡ false → (sent : List Copied) (w : WorkerValue) → slice_get (all_sent pages.new.items) worker ≡ Some sent
         → slice_get workers.new.items worker ≡ Some w → IsSealed sent w }
 {
-    waiting(pages, workers, worker) > 0 || workers[worker].has_open_run()
+    waiting::<S, T>(pages, workers, worker) > 0 || workers[worker].has_open_run()
 }
 
 /// The lowest worker that has a copy in its ring, or a run open.
 pub(crate) fn first_unsealed<S: Spool, T: Table>(
     pages: &mut Vec<PagePutter>,
-    workers: &mut Vec<Worker<S, T>>,
+    workers: &mut Vec<Worker<S>>,
 ) -> Option<usize>
     requires rings { put_rings pages.old.items ≡ T.pages }
     requires few { length workers.old.items ≤ length pages.old.items }
@@ -80,15 +79,16 @@ pub(crate) fn first_unsealed<S: Spool, T: Table>(
     ensures seen { IfSome result (λ k. HasSeenAll k (all_sent pages.new.items) workers.new.items) }
 {
     for worker in 0..workers.len() {
-        if is_unsealed(pages, workers, worker) {
+        if is_unsealed::<S, T>(pages, workers, worker) {
             return Some(worker);
         }
     }
     None
 }
 
-/// Does nothing: its clause tells what each worker keeps.
-pub(crate) fn laws_of<S: Spool, T: Table>(workers: &[Worker<S, T>])
+/// Does nothing: its clause tells what each worker of the table keeps.
+pub(crate) fn laws_of<S: Spool, T: Table>(workers: &[Worker<S>])
+    requires { All (HasItsRing T.pages) workers.now }
     ensures { All (KeepsLaws T.pages) workers.now }
 {
     for worker in workers {

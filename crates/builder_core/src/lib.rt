@@ -8,7 +8,8 @@
 //!
 //! [`Parts`] are a heap with the rings for all its builds, and [`Parts::open`] gives them the name of a [`Table`]: [`Live`] is then
 //! the table with its ready indexes, and [`Ends`] are the ends of the rings that stand beside it. [`Core`] is both, with the build
-//! that may be running: [`Core::step`] answers one event, and [`run_events`] a list of them. The pairs of a build are kept in spools that
+//! that may be running: [`Core::step`] answers one event, and [`run_events`] a list of them. [`Shut`] is a core whose name was taken
+//! off, for callers that can't keep one. The pairs of a build are kept in spools that
 //! the caller makes, and gets back ended ([`Core::into_live`]). [`at_rest`] makes the pairs of a table that nobody writes.
 #![tactic(auto)]
 
@@ -16,6 +17,7 @@ mod core_calls;
 mod core_replies;
 mod core_steps;
 mod run;
+mod shut;
 
 pub use build_events::{Event, Plan, Reply, Scan};
 pub use core_steps::Core;
@@ -25,3 +27,4 @@ pub use live_table::{
 };
 pub use run::run_events;
 pub use scan_range::Dealing;
+pub use shut::Shut;

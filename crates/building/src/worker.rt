@@ -1,4 +1,4 @@
-ghost use Rattle.std.specs.Prelude.{◌≡◌, ◌+◌, ◌++◌, ◌<◌, ◌≤◌, [], All, length, map, slice_get, true, false, Some, None, IfSome};
+ghost use Rattle.std.specs.Prelude.{◌≡◌, ◌+◌, ◌++◌, ◌<◌, ◌≤◌, [], All, length, map, true, false, None, IfSome};
 ghost use Rattle.building.specs.SpoolValue.{spool_value};
 ghost use Rattle.building.specs.TakeEnd.{PutEndLooked};
 ghost use Rattle.building.specs.Work.{at_start, knowing};
@@ -6,17 +6,17 @@ ghost use Rattle.building.specs.WorkerValue.{IsCounting, IsHolding, IsShortage};
 
 mod turns;
 
-use crate::{Intake, PagePutter, Table};
+use crate::{Intake, PagePutter};
 use keybytes::Fault;
 use run_maker::Maker;
 use run_spool::Spool;
 use std::alloc::Global;
-use std::marker::{Model, PhantomData};
+use std::marker::Model;
 use std::mem::replace;
 
 /// A worker of a build: its end of its ring, the maker of its pairs, and a spool for each index.
 ///
-/// Whatever a thread that is lent one calls, its ring stays the table's at its number, and while no digest or seal was refused, and until it
+/// Whatever a thread that is lent one calls, its number and its ring stay as they are, and while no digest or seal was refused, and until it
 /// hands its spools over, maker and spools hold, for each index, exactly the pairs of the copies of its build that it took. A refused
 /// digest or seal stops it: each further one is refused for the same fault. After digests and seals, refused ones too, it is still
 /// the worker of its place, with its own spools, and goes back to its build.
@@ -24,7 +24,7 @@ use std::mem::replace;
 /// [`Worker::hand_over`] and [`Worker::into_parts`] are for the build, once it has it back. A thread that calls one of them gives that up: the
 /// build can't take the worker back, and can only be given up. The spools are then the caller's, who has to end them: until then they keep
 /// their pages. To let a worker go loses them: a drop ends no spool, and gives no account back to its pool.
-pub struct Worker<S: Spool, T: Table> {
+pub struct Worker<S: Spool> {
     number: usize,
     intake: Intake,
     maker: Maker,
@@ -33,10 +33,9 @@ pub struct Worker<S: Spool, T: Table> {
     handed: bool,
     fault: Option<Fault>,
     alloc: Global,
-    of: PhantomData<T>,
 }
 
-impl<S: Spool, T: Table> Drop for Worker<S, T> {
+impl<S: Spool> Drop for Worker<S> {
     fn drop(self) {
         let Worker {
             number: _,
@@ -46,17 +45,16 @@ impl<S: Spool, T: Table> Drop for Worker<S, T> {
             handed: _,
             fault: _,
             alloc: _,
-            of: _,
         } = self;
     }
 }
 
-impl<S: Spool, T: Table> Model for Worker<S, T> {
+impl<S: Spool> Model for Worker<S> {
     ghost use Rattle.building.specs.WorkerValue.{WorkerValue};
 
     ghost Value = { WorkerValue };
 
-    ghost use Rattle.std.specs.Prelude.{◌≡◌, [], map, slice_get, true, false, Some, None, IfSome};
+    ghost use Rattle.std.specs.Prelude.{◌≡◌, [], map, true, false, None, IfSome};
     ghost use Rattle.building.specs.SpoolValue.{spool_value};
     ghost use Rattle.building.specs.WorkerValue.{IsCounting, IsHolding, IsShortage};
 
@@ -69,15 +67,14 @@ impl<S: Spool, T: Table> Model for Worker<S, T> {
       fault = worker.fault;
     } };
 
-    ghost invariant = { λ worker. (slice_get T.pages worker.number ≡ Some worker.intake.end.ring)
-        × IfSome worker.fault IsShortage
+    ghost invariant = { λ worker. IfSome worker.fault IsShortage
         × (worker.fault ≡ None → IsCounting worker.intake worker.maker)
         × (worker.fault ≡ None → worker.handed ≡ false
         → IsHolding worker.intake worker.maker (map (spool_value S.runs S.open_run S.stake) worker.spools.items))
         × (worker.handed ≡ true → worker.spools.items ≡ []) };
 }
 
-impl<S: Spool, T: Table> Worker<S, T> {
+impl<S: Spool> Worker<S> {
     /// A worker that has taken nothing of its build. It gets a spool for each specification of its maker, all empty.
     pub fn new(
         alloc: Global,
@@ -85,8 +82,7 @@ impl<S: Spool, T: Table> Worker<S, T> {
         intake: Intake,
         maker: Maker,
         spools: Vec<S>,
-    ) -> Worker<S, T>
-        requires ring { slice_get T.pages number ≡ Some intake.end.ring }
+    ) -> Worker<S>
         requires fresh { intake ≡ at_start intake.build intake.end }
         requires earlier { All (λ copied. copied.build < intake.build) intake.end.received }
         requires many { length spools.items ≡ length maker.specs }
@@ -109,13 +105,11 @@ impl<S: Spool, T: Table> Worker<S, T> {
             handed: false,
             fault: None,
             alloc,
-            of: PhantomData,
         }
     }
 
     /// Does nothing: its clauses tell what every worker keeps.
     pub fn laws(&self)
-        ensures ring { slice_get T.pages self.now.number ≡ Some self.now.intake.end.ring }
         ensures shortage { IfSome self.now.fault IsShortage }
         ensures begun { length self.now.maker.begun ≡ length self.now.maker.specs }
         ensures columns { All (λ spec. spec.kinds ≡ self.now.maker.schema) self.now.maker.specs }
@@ -164,7 +158,7 @@ impl<S: Spool, T: Table> Worker<S, T> {
 
     /// How many copies are in its ring, with the other end at hand. Both ends then know all that there is to know of the ring.
     pub fn waiting(&mut self, putter: &mut PagePutter) -> usize
-        requires { slice_get T.pages self.old.number ≡ Some putter.old.ring }
+        requires { putter.old.ring ≡ self.old.intake.end.ring }
         ensures worker { self.new ≡ record self.old { intake = knowing self.new.intake.end.known self.old.intake } }
         ensures putter { PutEndLooked putter.old putter.new }
         ensures value { result ≡ length self.new.intake.end.known }
@@ -196,7 +190,6 @@ impl<S: Spool, T: Table> Worker<S, T> {
             handed: _,
             fault: _,
             alloc: _,
-            of: _,
         } = self;
         (intake, spools)
     }

@@ -1,7 +1,8 @@
 -- Workers that keep their places go back to their build, with the stakes of their spools.
-use Rattle.std.proofs.Common.{◌≡◌, ℕ, ◌+◌, List, [], ◌∷◌, ◌++◌, length, Option, refl, sym, ap, ◌∙◌}
+use Rattle.std.proofs.Common.{◌≡◌, ℕ, ◌+◌, List, [], ◌∷◌, ◌++◌, length, Option, Some, refl, sym, ap, ◌∙◌}
 use Rattle.std.specs.Prelude.{flat_map}
 use Rattle.std.proofs.lemmas.List.{map-append}
+use Rattle.side_file.specs.Ends.{RingId}
 use Rattle.spool_ledger.specs.Accounts.{Stake}
 use Rattle.building.specs.SpoolValue.{SpoolValue, stakes_of}
 use Rattle.building.specs.WorkerValue.{SameWorker, WorkerValue}
@@ -15,6 +16,7 @@ use Rattle.crew.specs.Places.{PlaceValue, place_of, places_of}
 pub same_place : (old new : WorkerValue) → SameWorker old new → place_of new ≡ place_of old
 same_place old new same =
     let number = same.number in
+    let ring = same.ring in
     let build = same.build in
     let specs = same.specs in
     let handed = same.handed in
@@ -23,9 +25,11 @@ same_place old new same =
 
 -- one in the place of another that was back is back
 back_in :
-    (build : ℕ) (specs : List _) (place : ℕ) (old new : WorkerValue) → place_of new ≡ place_of old → IsBack build specs place old → IsBack build specs place new
-back_in build specs place old new same back = record {
+    (rings : List RingId) (build : ℕ) (specs : List _) (place : ℕ) (old new : WorkerValue) → place_of new ≡ place_of old → IsBack rings build specs place old
+    → IsBack rings build specs place new
+back_in rings build specs place old new same back = record {
   number = ap (λ (place : PlaceValue). place.number) same ∙ back.number;
+  ring = back.ring ∙ ap (λ (place : PlaceValue). Some place.ring) (sym same);
   of_build = ap (λ (place : PlaceValue). place.build) same ∙ back.of_build;
   specs_are = ap (λ (place : PlaceValue). place.specs) same ∙ back.specs_are;
   has_them = ap (λ (place : PlaceValue). place.handed) same ∙ back.has_them;
@@ -33,14 +37,15 @@ back_in build specs place old new same back = record {
 }
 
 -- so are all, in the places of all
-pub all_back : (rest : BuildingValue) (old new : List WorkerValue) → places_of new ≡ places_of old → AreBack rest old → AreBack rest new
-all_back rest old new same back = record {
+pub all_back :
+    (rings : List RingId) (rest : BuildingValue) (old new : List WorkerValue) → places_of new ≡ places_of old → AreBack rings rest old → AreBack rings rest new
+all_back rings rest old new same back = record {
   work = back.work;
   runs = back.runs;
   all = ap (λ n. n + length rest.idle) (as_long place_of place_of new old same) ∙ back.all;
   each = λ place worker at.
       let it = same_at place_of old new place worker (sym same) at in
-      back_in back.work.build back.work.specs place it.0 worker (sym it.2) (back.each place it.0 it.1);
+      back_in rings back.work.build back.work.specs place it.0 worker (sym it.2) (back.each place it.0 it.1);
 }
 
 -- the stakes of what workers have are told by their places

@@ -3,14 +3,16 @@ use Rattle.std.specs.Prelude.{◌≡◌, ℕ, ◌<◌, ◌≤◌, Bool, true, fa
 use Rattle.std.specs.List.{list_all, slice_get}
 use Rattle.keybytes.specs.Keys.{KeySpecValue}
 use Rattle.spool_ledger.specs.Accounts.{Stake}
+use Rattle.side_file.specs.Ends.{RingId}
 use Rattle.building.specs.SpoolValue.{stakes_of}
 use Rattle.building.specs.WorkerValue.{WorkerValue}
 use Rattle.build_work.specs.BuildingValue.{BuildingValue, IndexValue, WorkValue}
 use Rattle.build_work.specs.Holding.{all_spools, spools_state}
 
--- a worker's number, its build with the indexes, whether its spools went to these, and the stakes of its spools
+-- a worker's number and its ring, its build with the indexes, whether its spools went to these, and the stakes of its spools
 pub record PlaceValue : Type 0 where
   pub number : ℕ
+  pub ring : RingId
   pub build : ℕ
   pub specs : List KeySpecValue
   pub handed : Bool
@@ -19,6 +21,7 @@ pub record PlaceValue : Type 0 where
 abbrev pub place_of : WorkerValue → PlaceValue
 place_of worker = record {
   number = worker.number;
+  ring = worker.intake.end.ring;
   build = worker.intake.build;
   specs = worker.maker.specs;
   handed = worker.handed;

@@ -1,4 +1,3 @@
-use crate::Opened;
 use crate::returned::Returned;
 use builder_core::Worker;
 use run_spool::Spool;
@@ -7,11 +6,11 @@ use std::thread::Promise;
 
 /// The worker that comes back is the one that went, with its spools.
 #[derive(Drop)]
-pub(crate) struct ComesBack<S: Spool, T: Opened> {
-    pub(crate) worker: Snapshot<Worker<S, T>>,
+pub(crate) struct ComesBack<S: Spool> {
+    pub(crate) worker: Snapshot<Worker<S>>,
 }
 
-impl<S: Spool, T: Opened> Promise<Returned<S, T>> for ComesBack<S, T> {
+impl<S: Spool> Promise<Returned<S>> for ComesBack<S> {
     ghost use Rattle.std.specs.Prelude.{◌≡◌, IfSome};
     ghost use Rattle.crew.specs.Reports.{IsOther};
     ghost use Rattle.crew.specs.Places.{place_of};

@@ -30,8 +30,8 @@ pub(crate) fn scan_all<S, T, G, R>(
     table: &Table<T>,
     plan: &Plan,
     gate: &G,
-    workers: Vec<Worker<S, T>>,
-) -> (Vec<Worker<S, T>>, Result<(), Fault>)
+    workers: Vec<Worker<S>>,
+) -> (Vec<Worker<S>>, Result<(), Fault>)
 where
     S: Spool + Send,
     T: Opened + Send + Sync,
@@ -55,8 +55,8 @@ pub(crate) fn scan_dealt<S, T, G, R>(
     plan: &Plan,
     queue: &RangeQueue,
     gate: &G,
-    workers: Vec<Worker<S, T>>,
-) -> (Vec<Worker<S, T>>, Result<(), Fault>)
+    workers: Vec<Worker<S>>,
+) -> (Vec<Worker<S>>, Result<(), Fault>)
 where
     S: Spool + Send,
     T: Opened + Send + Sync,
@@ -81,7 +81,7 @@ fn finish_scan<S: Spool, T: Opened, G: Gate, R: Wait>(
     table: &Table<T>,
     ranges: usize,
     gate: &G,
-    workers: &mut Vec<Worker<S, T>>,
+    workers: &mut Vec<Worker<S>>,
 ) -> Result<(), Fault>
     ensures back { places_of workers.new.items ≡ places_of workers.old.items }
     ensures fine { OnOk result (All (λ worker. worker.fault ≡ None) workers.new.items) }
@@ -98,7 +98,7 @@ fn scan_rest<S: Spool, T: Opened, G: Gate, R: Wait>(
     table: &Table<T>,
     ranges: usize,
     gate: &G,
-    workers: &mut Vec<Worker<S, T>>,
+    workers: &mut Vec<Worker<S>>,
 ) -> Result<(), Fault>
     ensures back { places_of workers.new.items ≡ places_of workers.old.items }
     ensures other { IfErr result IsOther }
@@ -113,7 +113,7 @@ fn scan_rest<S: Spool, T: Opened, G: Gate, R: Wait>(
 }
 
 /// Closes the runs of all workers.
-fn seal_all<S: Spool, T: Opened>(workers: &mut Vec<Worker<S, T>>) -> Result<(), Fault>
+fn seal_all<S: Spool>(workers: &mut Vec<Worker<S>>) -> Result<(), Fault>
     ensures back { places_of workers.new.items ≡ places_of workers.old.items }
     ensures fine { OnOk result (All (λ worker. worker.fault ≡ None) workers.new.items) }
     ensures other { IfErr result IsOther }

@@ -25,8 +25,8 @@ fn run<S: Spool, T: Opened, G: Gate, R: Threads + Wait + Sync>(
     table: &Table<T>,
     queue: &RangeQueue,
     gate: &G,
-    mut worker: Worker<S, T>,
-) -> Returned<S, T>
+    mut worker: Worker<S>,
+) -> Returned<S>
     ensures same { place_of result.worker ≡ place_of worker }
     ensures other { IfSome result.fault IsOther }
 {
@@ -50,11 +50,11 @@ fn start<
     table: &'e Table<T>,
     queue: &'e RangeQueue,
     gate: &'e G,
-    mut workers: Vec<Worker<S, T>>,
-    mut handles: Vec<PromisedHandle<Returned<S, T>, ComesBack<S, T>>>,
+    mut workers: Vec<Worker<S>>,
+    mut handles: Vec<PromisedHandle<Returned<S>, ComesBack<S>>>,
 ) -> (
-    Vec<PromisedHandle<Returned<S, T>, ComesBack<S, T>>>,
-    Vec<Worker<S, T>>,
+    Vec<PromisedHandle<Returned<S>, ComesBack<S>>>,
+    Vec<Worker<S>>,
 )
     requires none { handles.items ≡ [] }
     requires room { vec_len workers ≤ vec_capacity handles }
@@ -82,12 +82,12 @@ fn start<
 }
 
 /// Waits for each thread. The workers that had none come behind, and count as refused for want of memory. The fault is the lowest worker's.
-fn join_all<S: Spool, T: Opened, R: Threads>(
+fn join_all<S: Spool, R: Threads>(
     rt: &R,
-    handles: Vec<PromisedHandle<Returned<S, T>, ComesBack<S, T>>>,
-    rest: Vec<Worker<S, T>>,
-    mut back: Vec<Worker<S, T>>,
-) -> (Vec<Worker<S, T>>, Result<(), Fault>)
+    handles: Vec<PromisedHandle<Returned<S>, ComesBack<S>>>,
+    rest: Vec<Worker<S>>,
+    mut back: Vec<Worker<S>>,
+) -> (Vec<Worker<S>>, Result<(), Fault>)
     requires none { back.items ≡ [] }
     requires room { vec_len handles + vec_len rest ≤ vec_capacity back }
     ensures back { places_of result.0.items ≡ map (λ handle. place_of handle.promise.worker.value) handles.items ++ places_of rest.items }
@@ -107,7 +107,7 @@ fn join_all<S: Spool, T: Opened, R: Threads>(
 }
 
 /// Puts the workers that had no thread behind the others. There is room for them.
-fn put_behind<S: Spool, T: Opened>(back: &mut Vec<Worker<S, T>>, rest: Vec<Worker<S, T>>)
+fn put_behind<S: Spool>(back: &mut Vec<Worker<S>>, rest: Vec<Worker<S>>)
     requires { vec_len back.old + vec_len rest ≤ vec_capacity back.old }
     ensures { back.new.items ≡ back.old.items ++ rest.items }
 {
@@ -141,8 +141,8 @@ pub(crate) fn run_all<
     table: &'e Table<T>,
     queue: &'e RangeQueue,
     gate: &'e G,
-    workers: Vec<Worker<S, T>>,
-) -> (Vec<Worker<S, T>>, Result<(), Fault>)
+    workers: Vec<Worker<S>>,
+) -> (Vec<Worker<S>>, Result<(), Fault>)
     ensures back { places_of result.0.items ≡ places_of workers.items }
     ensures other { IfErr result.1 IsOther }
 {
@@ -168,10 +168,10 @@ fn run_reserved<
     table: &'e Table<T>,
     queue: &'e RangeQueue,
     gate: &'e G,
-    workers: Vec<Worker<S, T>>,
-    handles: Vec<PromisedHandle<Returned<S, T>, ComesBack<S, T>>>,
-    back: Vec<Worker<S, T>>,
-) -> (Vec<Worker<S, T>>, Result<(), Fault>)
+    workers: Vec<Worker<S>>,
+    handles: Vec<PromisedHandle<Returned<S>, ComesBack<S>>>,
+    back: Vec<Worker<S>>,
+) -> (Vec<Worker<S>>, Result<(), Fault>)
     requires none { (handles.items ≡ []) × (back.items ≡ []) }
     requires room { (vec_len workers ≤ vec_capacity handles) × (vec_len workers ≤ vec_capacity back) }
     ensures back { places_of result.0.items ≡ places_of workers.items }
@@ -180,7 +180,7 @@ fn run_reserved<
     thread::scope(
         thread::scope_env(),
         rt,
-        move |scope| -> (Vec<Worker<S, T>>, Result<(), Fault>)
+        move |scope| -> (Vec<Worker<S>>, Result<(), Fault>)
             requires none { (handles.items ≡ []) × (back.items ≡ []) }
             requires room { (vec_len workers ≤ vec_capacity handles) × (vec_len workers ≤ vec_capacity back) }
             ensures back { places_of result.0.items ≡ places_of workers.items }

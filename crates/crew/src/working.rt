@@ -19,7 +19,7 @@ fn scan_page<S: Spool, T: Opened, G: Gate, Q: RunSort, R: Wait>(
     alloc: Global,
     table: &Table<T>,
     gate: &G,
-    worker: &mut Worker<S, T>,
+    worker: &mut Worker<S>,
     range: usize,
     sort: &mut Q,
 ) -> Result<bool, Fault>
@@ -43,10 +43,7 @@ fn scan_page<S: Spool, T: Opened, G: Gate, Q: RunSort, R: Wait>(
 }
 
 /// Makes the pairs of the next copy that the worker has.
-fn digest<S: Spool, T: Opened, Q: RunSort>(
-    worker: &mut Worker<S, T>,
-    sort: &mut Q,
-) -> Result<(), Fault>
+fn digest<S: Spool, Q: RunSort>(worker: &mut Worker<S>, sort: &mut Q) -> Result<(), Fault>
     ensures same { place_of worker.new ≡ place_of worker.old }
     ensures other { IfErr result IsOther }
 {
@@ -56,10 +53,7 @@ fn digest<S: Spool, T: Opened, Q: RunSort>(
 }
 
 /// Makes the pairs of all copies that the worker has, and closes its runs.
-pub(crate) fn seal<S: Spool, T: Opened, Q: RunSort>(
-    worker: &mut Worker<S, T>,
-    sort: &mut Q,
-) -> Result<(), Fault>
+pub(crate) fn seal<S: Spool, Q: RunSort>(worker: &mut Worker<S>, sort: &mut Q) -> Result<(), Fault>
     ensures same { place_of worker.new ≡ place_of worker.old }
     ensures fine { OnOk result (worker.new.fault ≡ None) }
     ensures other { IfErr result IsOther }
@@ -75,7 +69,7 @@ pub(crate) fn scan_range<S: Spool, T: Opened, G: Gate, Q: RunSort, R: Wait>(
     alloc: Global,
     table: &Table<T>,
     gate: &G,
-    worker: &mut Worker<S, T>,
+    worker: &mut Worker<S>,
     range: usize,
     sort: &mut Q,
 ) -> Result<(), Fault>
@@ -97,7 +91,7 @@ pub(crate) fn work<S: Spool, T: Opened, G: Gate, Q: RunSort, R: Wait>(
     table: &Table<T>,
     queue: &RangeQueue,
     gate: &G,
-    worker: &mut Worker<S, T>,
+    worker: &mut Worker<S>,
     sort: &mut Q,
 ) -> Result<(), Fault>
     ensures same { place_of worker.new ≡ place_of worker.old }

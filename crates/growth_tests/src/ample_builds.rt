@@ -5,7 +5,7 @@ use crate::asks::{Ask, Index, event, row, schema, spec};
 use builder_core::{Core, Dealing, Ends, Event, Live, Parts, Plan, Reply, Table, run_events};
 use heap_table::Heap;
 use keybytes::{Fault, KeySpec, Rid};
-use replay::Leases;
+use leased_core::Leases;
 use run_spool::Spool;
 use spool_choice::SpoolChoice;
 use std::alloc::Global;

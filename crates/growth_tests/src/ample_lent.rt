@@ -1,7 +1,8 @@
 //! The calls of a build whose workers and loads are lent, and of what stands beside the table alone.
-ghost use Rattle.std.specs.Prelude.{◌≡◌, All, None, true};
+ghost use Rattle.std.specs.Prelude.{◌≡◌, All, List, None, true};
 ghost use Rattle.std.specs.List.{AllZip};
 ghost use Rattle.building.specs.WorkerValue.{SameWorker};
+ghost use Rattle.side_file.specs.Ends.{RingId};
 ghost use Rattle.build_work.specs.BuildingValue.{BuildingValue};
 ghost use Rattle.build_work.specs.IndexLoads.{CanLoadAll};
 ghost use Rattle.build_work.specs.Lent.{AreBack, CanLend};
@@ -13,7 +14,7 @@ use builder_core::{Building, Ends, Live, Parts, Plan, Table, Worker};
 use building::Turn;
 use index_load::IndexLoad;
 use keybytes::Fault;
-use replay::Leases;
+use leased_core::Leases;
 use run_maker::StdSort;
 use run_spool::Spool;
 use spool_choice::SpoolChoice;
@@ -57,7 +58,7 @@ fn in_build<S: Spool, T: Table>(building: &mut Building<S, T>, does: Does) -> Re
     }
 }
 
-fn by_worker<S: Spool, T: Table>(worker: &mut Worker<S, T>, does: Does) -> Result<usize, Fault>
+fn by_worker<S: Spool>(worker: &mut Worker<S>, does: Does) -> Result<usize, Fault>
     ensures { SameWorker worker.old worker.new }
 {
     match does {
@@ -71,8 +72,8 @@ fn by_worker<S: Spool, T: Table>(worker: &mut Worker<S, T>, does: Does) -> Resul
     }
 }
 
-fn by_first<S: Spool, T: Table>(workers: &mut Vec<Worker<S, T>>, does: Does) -> Result<usize, Fault>
-    ensures { (rest : BuildingValue) → AreBack rest workers.old.items → AreBack rest workers.new.items }
+fn by_first<S: Spool>(workers: &mut Vec<Worker<S>>, does: Does) -> Result<usize, Fault>
+    ensures { (rings : List RingId) (rest : BuildingValue) → AreBack rings rest workers.old.items → AreBack rings rest workers.new.items }
 {
     if workers.is_empty() {
         return Err(Fault::NoBuild);
@@ -80,8 +81,8 @@ fn by_first<S: Spool, T: Table>(workers: &mut Vec<Worker<S, T>>, does: Does) -> 
     by_worker(&mut workers[0], does)
 }
 
-fn by_workers<S: Spool, T: Table>(workers: &mut Vec<Worker<S, T>>) -> Result<(), Fault>
-    ensures { (rest : BuildingValue) → AreBack rest workers.old.items → AreBack rest workers.new.items }
+fn by_workers<S: Spool>(workers: &mut Vec<Worker<S>>) -> Result<(), Fault>
+    ensures { (rings : List RingId) (rest : BuildingValue) → AreBack rings rest workers.old.items → AreBack rings rest workers.new.items }
 {
     for does in ALL {
         by_first(workers, does)?;

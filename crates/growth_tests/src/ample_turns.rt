@@ -7,7 +7,7 @@ use crate::asks::{Index, row, schema, spec};
 use builder_core::{Building, Dealing, Ends, Live, Parts, Plan, Table};
 use heap_table::{Heap, PageImage};
 use keybytes::{Fault, Rid};
-use replay::Leases;
+use leased_core::Leases;
 use run_spool::Spool;
 use spool_choice::SpoolChoice;
 use std::alloc::Global;

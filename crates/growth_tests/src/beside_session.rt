@@ -1,6 +1,6 @@
 //! A build of two indexes by two workers in threads, beside a session that writes, where memory may run out once.
 ghost use Rattle.std.specs.Prelude.{◌≡◌, map};
-ghost use Rattle.replay.specs.Leasing.{AreOf, stake_in};
+ghost use Rattle.leased_core.specs.Leasing.{AreOf, stake_in};
 
 use crate::asks::{Index, row, schema, spec};
 use crate::entries::has_pairs;
@@ -10,7 +10,7 @@ use builder_core::{Dealing, Ends, Live, Pair, Parts, Plan};
 use crew::{BuildFault, Gate, Opened, Point, Report, Table, TableParts, build};
 use heap_table::Heap;
 use keybytes::{Fault, KeySpec};
-use replay::Leases;
+use leased_core::Leases;
 use run_spool::Spool;
 use spool_choice::SpoolChoice;
 use spool_kinds::SpoolOfKind;

@@ -1,11 +1,11 @@
 //! A core on its own pool.
 ghost use Rattle.std.specs.Prelude.{◌≡◌, map};
-ghost use Rattle.replay.specs.Leasing.{AreOf, stake_in};
+ghost use Rattle.leased_core.specs.Leasing.{AreOf, stake_in};
 
 use crate::asks::{Index, spec};
 use builder_core::{Core, Ends, Event, Live, Pair, Reply, Table};
 use keybytes::{Fault, Rid, Row};
-use replay::Leases;
+use leased_core::Leases;
 use run_spool::Spool;
 use spool_kinds::SpoolOfKind;
 use std::alloc::Global;
@@ -18,7 +18,7 @@ pub struct Stand<T: Table> {
 }
 
 impl<T: Table> Model for Stand<T> {
-    ghost use Rattle.replay.specs.Leasing.{AreOf};
+    ghost use Rattle.leased_core.specs.Leasing.{AreOf};
     ghost use Rattle.growth_tests.specs.Stands.{StandValue};
 
     ghost Value = { StandValue };

@@ -1,6 +1,6 @@
 //! The telling of a story, and what comes of it.
 ghost use Rattle.std.specs.Prelude.{◌≡◌, map};
-ghost use Rattle.replay.specs.Leasing.{AreOf, stake_in};
+ghost use Rattle.leased_core.specs.Leasing.{AreOf, stake_in};
 
 use crate::asks::schema;
 use crate::calls::{Call, first_otherwise};
@@ -9,7 +9,7 @@ use crate::stand::Stand;
 use builder_core::{Parts, Table};
 use heap_table::Heap;
 use keybytes::Fault;
-use replay::Leases;
+use leased_core::Leases;
 use spool_choice::SpoolChoice;
 use spool_kinds::SpoolOfKind;
 use std::alloc::Global;

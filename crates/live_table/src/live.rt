@@ -10,17 +10,18 @@ ghost use Rattle.keybytes.specs.Pairs.{HaveKeysOf, AreInColumnOrder};
 ghost use Rattle.build_scan.specs.TableBuilds.{BuildFollows};
 ghost use Rattle.build_halves.specs.Builds.{value_with_heap};
 ghost use Rattle.build_halves.specs.Visits.{IsVisited};
-ghost use Rattle.build_work.specs.Rings.{all_sent, AreOfBuilds};
+ghost use Rattle.build_work.specs.Rings.{all_sent, put_rings, AreOfBuilds};
 ghost use Rattle.build_halves.specs.Rings.{ArePutEnds};
 ghost use Rattle.build_halves.specs.Invariant.{EachPageOnce};
 ghost use Rattle.build_events.specs.Soundness.{BuildIsSound};
 ghost use Rattle.std.specs.VecDeque.Iter.{deque_iter_rest};
-ghost use Rattle.build_scan.specs.SideFiles.{AreEntriesLeft, EachEntryOnce, EntriesAreOfBuilds, HaveEntryKeys, NoneAhead, side_refusal, put_ends};
+ghost use Rattle.build_scan.specs.SideFiles.{AreEntriesLeft, EachEntryOnce, EntriesAreOfBuilds, HaveEntryKeys, NoneAhead, side_refusal, side_rings, put_ends};
 ghost use Rattle.build_events.specs.CoreState.{abandoned, after_visits, ReadyFollowTable};
 ghost use Rattle.ready_indexes.specs.Following.{indexes_of};
 ghost use Rattle.ready_indexes.specs.KeyCauses.{KeysAreGuarded};
 
 use crate::rest::at_rest;
+use crate::shut_live::ShutLive;
 use crate::{Pair, Table};
 use build_scan::{TableScan, reset_all};
 use building::PagePutter;
@@ -43,7 +44,7 @@ pub struct Live<T: Table> {
     pub(crate) build: Option<TableScan>,
     pub(crate) pages: Vec<PagePutter>,
     pub(crate) sides: Vec<SideFile>,
-    of: PhantomData<T>,
+    pub(crate) of: PhantomData<T>,
 }
 
 impl<T: Table> Drop for Live<T> {
@@ -248,5 +249,32 @@ impl<T: Table> Live<T> {
         ensures memory { IfErr result (λ fault. fault ≡ Fault.Memory) }
     {
         at_rest(&mut self.heap, spec)
+    }
+
+    /// Takes its name off. Takes no memory.
+    pub fn shut(self) -> ShutLive
+        ensures live { result ≡ self }
+        ensures pages { put_rings result.pages ≡ T.pages }
+        ensures sides { side_rings result.sides ≡ T.sides }
+    {
+        let Live {
+            alloc,
+            heap,
+            ready,
+            builds,
+            build,
+            pages,
+            sides,
+            of: _,
+        } = self;
+        ShutLive {
+            alloc,
+            heap,
+            ready,
+            builds,
+            build,
+            pages,
+            sides,
+        }
     }
 }

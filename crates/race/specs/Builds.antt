@@ -7,7 +7,7 @@ use Rattle.keybytes.specs.declared.kind.Kind.{Kind}
 use Rattle.keybytes.specs.declared.pair.Pair.{Pair}
 use Rattle.heap_log.specs.declared.record.LogRec.{LogRec}
 use Rattle.crew.specs.Reports.{IsReport}
-use Rattle.replay.specs.Leasing.{AreOf, new_spools, spools_of_kinds, stake_in}
+use Rattle.leased_core.specs.Leasing.{AreOf, new_spools, spools_of_kinds, stake_in}
 use Rattle.replay.specs.Limits.{is_in_limits}
 use Rattle.replay.specs.Listings.{ListsShared, key_spec_of}
 use Rattle.script.specs.declared.race.build.Build.{Build}

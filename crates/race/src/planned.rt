@@ -3,7 +3,8 @@ ghost use Rattle.race.specs.Builds.{PlansBuild};
 
 use builder_core::Plan;
 use keybytes::{Fault, Schema};
-use replay::{Leases, is_in_limits, key_specs};
+use leased_core::Leases;
+use replay::{is_in_limits, key_specs};
 use script::Build;
 use spool_choice::SpoolChoice;
 use spool_kinds::SpoolOfKind;

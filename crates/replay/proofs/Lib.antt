@@ -1,6 +1,4 @@
-mod BuildsKept
 pub mod KeyedPairs
-mod Leased
 mod Replies
 mod SharedLines
 mod SpecLists

@@ -9,7 +9,7 @@ use Rattle.build_events.specs.declared.event.Event.TheVariants.{Begin, Insert, U
 use Rattle.build_events.specs.declared.reply.Reply.{Reply}
 use Rattle.build_events.specs.declared.reply.Reply.TheVariants.{FenceSet, Begun, Written, Undone, Committed, Scanned, Digested, Sealed, Loaded, Fed, Applied}
 use Rattle.build_events.specs.declared.reply.Reply.TheVariants.{Refused}
-use Rattle.replay.specs.Leasing.{KeepsBuild}
+use Rattle.leased_core.specs.Leasing.{KeepsBuild}
 
 -- what an event may be replied that neither starts a build nor ends one
 record IsNone (other : Reply) : Type 0 where

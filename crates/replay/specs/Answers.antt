@@ -25,7 +25,7 @@ use Rattle.script.specs.declared.command.Command.TheVariants.{Row, Begin, Insert
 use Rattle.script.specs.declared.command.Command.TheVariants.{Seal, Load, Feed, Apply, Fence, Switch, Abandon, Side, Pairs, Rest}
 use Rattle.script.specs.declared.start.Start.{Start}
 use Rattle.replay.specs.Labels.{named}
-use Rattle.replay.specs.Leasing.{EndsBuild, FailsToStart, StartsOver}
+use Rattle.leased_core.specs.Leasing.{EndsBuild, FailsToStart, StartsOver}
 use Rattle.replay.specs.Limits.{is_refusal}
 use Rattle.replay.specs.Listings.{ListsIndex, ListsRest, ListsSide, ListsShared}
 use Rattle.replay.specs.declared.shared_line.SharedLine.{SharedLine}

@@ -1,7 +1,6 @@
 pub mod Answers
 pub mod Checks
 pub mod Labels
-pub mod Leasing
 pub mod Limits
 pub mod Listings
 pub mod Plans

@@ -13,7 +13,8 @@ use Rattle.keybytes.specs.declared.rid.Rid.{Rid}
 use Rattle.heap_log.specs.declared.outcome.Outcome.{Outcome}
 use Rattle.heap_log.specs.declared.outcome.Outcome.TheVariants.{Ready, Shared}
 use Rattle.replay.specs.declared.shared_line.SharedLine.{SharedLine}
-use Rattle.build_events.specs.CoreState.{CoreState, with_heap}
+use Rattle.build_events.specs.CoreState.{CoreState}
+use Rattle.leased_core.specs.Leasing.{OnlyVisits}
 use Rattle.ready_indexes.specs.Indexes.{ReadyValue}
 use Rattle.heap_table.specs.TablePairs.{pairs_at_rest}
 use Rattle.keybytes.specs.declared.pair.Pair.{Pair}
@@ -79,10 +80,6 @@ ListsIndex number old given new =
     (new ≡ old)
     × (ListsReady (slice_get old.live.ready number) given
     ⊎ ((fault : Fault) × (given ≡ answer.Refused fault) × RefusedFor (index_missing (slice_get old.live.ready number)) fault))
-
--- nothing has changed but how often rows were given out
-abbrev pub OnlyVisits : CoreState → CoreState → Type 0
-OnlyVisits old new = new ≡ with_heap old (record old.live.heap { visits = new.live.heap.visits })
 
 -- the pairs of the rows that stand are listed, or the specification is refused
 abbrev pub ListsRest : Spec → CoreState → Answer → CoreState → Type 0

@@ -17,7 +17,7 @@ use Rattle.script.specs.declared.script.Script.{Script}
 use Rattle.script.specs.declared.table.Table.{Table}
 use Rattle.replay.specs.Answers.{CarriesOut, answer_of}
 use Rattle.replay.specs.Labels.{NamesNone, Renames}
-use Rattle.replay.specs.Leasing.{no_spools}
+use Rattle.leased_core.specs.Leasing.{no_spools}
 use Rattle.replay.specs.Limits.{is_refusal, table_refusal}
 use Rattle.replay.specs.declared.answer.Answer.{Answer}
 use Rattle.replay.specs.declared.answer.Answer.TheVariants as answer

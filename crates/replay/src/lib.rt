@@ -5,10 +5,8 @@
 #![tactic(auto)]
 
 mod answer;
-mod bench;
 mod entry_line;
 mod labels;
-mod leases;
 mod listing;
 mod output;
 mod output_failed;
@@ -23,10 +21,8 @@ mod status;
 mod txn;
 
 pub use answer::Answer;
-pub use bench::Bench;
 pub use entry_line::EntryLine;
 pub use labels::Labels;
-pub use leases::Leases;
 pub use listing::shared_lines;
 pub use output::Output;
 pub use output_failed::OutputFailed;

@@ -3,7 +3,6 @@ ghost use Rattle.std.specs.Prelude.{◌≡◌, ◌≤◌, IfSome, OnOk, IfOk};
 ghost use Rattle.replay.specs.Sessions.{state_of, EndsWith, ExitsWith, RunsAll, RunsNext, RunsOn};
 
 use crate::answer::Answer;
-use crate::bench::Bench;
 use crate::output::Output;
 use crate::output_failed::OutputFailed;
 use crate::parts::table_parts;
@@ -12,6 +11,7 @@ use crate::session::Session;
 use crate::status::Status;
 use builder_core::{Parts, Table};
 use keybytes::Fault;
+use leased_core::LeasedCore;
 use script::{NumberedCommand, Script};
 use std::alloc::Global;
 use std::io::{Read, Write};
@@ -93,36 +93,36 @@ fn answer_table<T: Table, W: Write + Drop>(
 {
     output.print(number, &Answer::Done)?;
     let (live, ends) = parts.open::<T>();
-    let mut bench = Bench::new(alloc, live, ends);
+    let mut leased = LeasedCore::new(alloc, live, ends);
     let mut session = Session::new(alloc);
-    let answered = answer_all(&mut session, &mut bench, commands, output);
-    let _missing = bench.close();
+    let answered = answer_all(&mut session, &mut leased, commands, output);
+    let _missing = leased.close();
     answered?;
     Ok(session.status())
 }
 
 fn answer_all<T: Table, W: Write + Drop>(
     session: &mut Session,
-    bench: &mut Bench<T>,
+    leased: &mut LeasedCore<T>,
     commands: Vec<NumberedCommand>,
     output: &mut Output<W>,
 ) -> Result<(), OutputFailed>
-    ensures { OnOk result (RunsAll (state_of bench.old session.old) commands.items (state_of bench.new session.new)) }
+    ensures { OnOk result (RunsAll (state_of leased.old session.old) commands.items (state_of leased.new session.new)) }
 {
     for command in commands {
-        answer_next(session, bench, command, output)?;
+        answer_next(session, leased, command, output)?;
     }
     Ok(())
 }
 
 fn answer_next<T: Table, W: Write + Drop>(
     session: &mut Session,
-    bench: &mut Bench<T>,
+    leased: &mut LeasedCore<T>,
     command: NumberedCommand,
     output: &mut Output<W>,
 ) -> Result<(), OutputFailed>
-    ensures { RunsNext (state_of bench.old session.old) command (state_of bench.new session.new) }
+    ensures { RunsNext (state_of leased.old session.old) command (state_of leased.new session.new) }
 {
-    let answer = session.run(bench, command.command);
+    let answer = session.run(leased, command.command);
     output.print(command.number, &answer)
 }

@@ -4,7 +4,7 @@ ghost use Rattle.std.specs.List.{list_any};
 ghost use Rattle.keybytes.specs.Faults.{RefusedFor};
 ghost use Rattle.replay.specs.Answers.{Happens, answer_of};
 ghost use Rattle.replay.specs.Sessions.{state_of, Answers, IsNew, Runs};
-ghost use Rattle.replay.specs.Leasing.{KeepsBuild};
+ghost use Rattle.leased_core.specs.Leasing.{KeepsBuild};
 ghost use Rattle.replay.specs.Limits.{is_refusal};
 ghost use Rattle.build_scan.specs.SideFiles.{side_refusal};
 ghost use Rattle.replay.specs.declared.answer.Answer.{Answer};
@@ -12,7 +12,6 @@ ghost use Rattle.replay.specs.Listings.{key_spec_of, spec_refusal, ListsLeft};
 ghost use Rattle.replay.specs.Plans.{specs_refusal};
 
 use crate::answer::Answer;
-use crate::bench::Bench;
 use crate::entry_line::EntryLine;
 use crate::labels::Labels;
 use crate::listing::{build_specs, entry_lines, pair_lines, shared_lines, tree_lines};
@@ -22,6 +21,7 @@ use crate::txn::{begin, put, take_back};
 use builder_core::{Core, Event, Plan, Reply, Table};
 use heap_log::{Outcome, Verdicts};
 use keybytes::{Cell, Fault, KeySpec, Rid, Row};
+use leased_core::LeasedCore;
 use script::{Command, Label, Spec, Start};
 use spool_choice::SpoolChoice;
 use spool_kinds::SpoolOfKind;
@@ -57,55 +57,63 @@ impl Session {
     }
 
     /// Runs a command, and answers it.
-    pub fn run<T: Table>(&mut self, bench: &mut Bench<T>, command: Command) -> Answer
-        ensures { Runs (state_of bench.old self.old) command result (state_of bench.new self.new) }
+    pub fn run<T: Table>(&mut self, leased: &mut LeasedCore<T>, command: Command) -> Answer
+        ensures { Runs (state_of leased.old self.old) command result (state_of leased.new self.new) }
     {
-        match self.answer(bench, command) {
+        match self.answer(leased, command) {
             Ok(answer) => answer,
             Err(fault) => Answer::Refused { fault },
         }
     }
 
-    fn answer<T: Table>(&mut self, bench: &mut Bench<T>, command: Command) -> Result<Answer, Fault>
-        ensures { Answers (state_of bench.old self.old) command result (state_of bench.new self.new) }
+    fn answer<T: Table>(
+        &mut self,
+        leased: &mut LeasedCore<T>,
+        command: Command,
+    ) -> Result<Answer, Fault>
+        ensures { Answers (state_of leased.old self.old) command result (state_of leased.new self.new) }
     {
         match command {
-            Command::Row { cells } => self.put_row(bench, cells),
-            Command::Begin { label } => self.begin_named(bench, &label),
-            Command::Insert { label, cells } => self.insert_named(bench, &label, cells),
-            Command::Update { label, rid, cells } => self.update_named(bench, &label, rid, cells),
-            Command::Delete { label, rid } => self.delete_named(bench, &label, rid),
-            Command::Undo { label } => self.undo_named(bench, &label),
-            Command::Commit { label } => self.commit_named(bench, &label),
-            Command::Get { rid } => self.get(bench, rid),
-            Command::Start(start) => self.start(bench, start),
+            Command::Row { cells } => self.put_row(leased, cells),
+            Command::Begin { label } => self.begin_named(leased, &label),
+            Command::Insert { label, cells } => self.insert_named(leased, &label, cells),
+            Command::Update { label, rid, cells } => self.update_named(leased, &label, rid, cells),
+            Command::Delete { label, rid } => self.delete_named(leased, &label, rid),
+            Command::Undo { label } => self.undo_named(leased, &label),
+            Command::Commit { label } => self.commit_named(leased, &label),
+            Command::Get { rid } => self.get(leased, rid),
+            Command::Start(start) => self.start(leased, start),
             Command::Spools { choice } => Ok(self.choose(choice)),
-            Command::Scan { range, worker } => step(bench, Event::Scan { range, worker }),
-            Command::Digest { worker } => step(bench, Event::Digest { worker }),
-            Command::Seal { worker } => step(bench, Event::Seal { worker }),
-            Command::Load { index } => step(bench, Event::Load { index }),
-            Command::Feed { index, most } => step(bench, Event::Feed { index, most }),
-            Command::Apply { index, most } => step(bench, Event::Apply { index, most }),
-            Command::Fence => step(bench, Event::Fence),
-            Command::Switch => self.switch(bench),
-            Command::Abandon => self.abandon(bench),
-            Command::Side { index } => self.side(bench.core(), index),
-            Command::Pairs { number } => self.pairs(bench.core(), number),
-            Command::Rest { spec } => self.rest(bench, spec),
+            Command::Scan { range, worker } => step(leased, Event::Scan { range, worker }),
+            Command::Digest { worker } => step(leased, Event::Digest { worker }),
+            Command::Seal { worker } => step(leased, Event::Seal { worker }),
+            Command::Load { index } => step(leased, Event::Load { index }),
+            Command::Feed { index, most } => step(leased, Event::Feed { index, most }),
+            Command::Apply { index, most } => step(leased, Event::Apply { index, most }),
+            Command::Fence => step(leased, Event::Fence),
+            Command::Switch => self.switch(leased),
+            Command::Abandon => self.abandon(leased),
+            Command::Side { index } => self.side(leased.core(), index),
+            Command::Pairs { number } => self.pairs(leased.core(), number),
+            Command::Rest { spec } => self.rest(leased, spec),
         }
     }
 
     /// Puts a row in, by a transaction of its own. Where that is refused once the transaction has begun, what it wrote is
     /// taken back.
-    fn put_row<T: Table>(&mut self, bench: &mut Bench<T>, cells: Vec<Cell>) -> Result<Answer, Fault>
-        ensures { Answers (state_of bench.old self.old) (Command.Row cells) result (state_of bench.new self.new) }
+    fn put_row<T: Table>(
+        &mut self,
+        leased: &mut LeasedCore<T>,
+        cells: Vec<Cell>,
+    ) -> Result<Answer, Fault>
+        ensures { Answers (state_of leased.old self.old) (Command.Row cells) result (state_of leased.new self.new) }
     {
         let row = Row::new(cells)?;
-        let txn = begin(bench)?;
-        match put(bench, txn, row) {
+        let txn = begin(leased)?;
+        match put(leased, txn, row) {
             Ok(rid) => Ok(Answer::Row { rid }),
             Err(fault) => {
-                take_back(bench, txn);
+                take_back(leased, txn);
                 Err(fault)
             }
         }
@@ -114,99 +122,103 @@ impl Session {
     /// Begins a transaction that the label names; where that is refused, it names none.
     fn begin_named<T: Table>(
         &mut self,
-        bench: &mut Bench<T>,
+        leased: &mut LeasedCore<T>,
         label: &Label,
     ) -> Result<Answer, Fault>
-        ensures { Answers (state_of bench.old self.old) (Command.Begin label.now) result (state_of bench.new self.new) }
+        ensures { Answers (state_of leased.old self.old) (Command.Begin label.now) result (state_of leased.new self.new) }
     {
         self.labels.forget(label)?;
-        let txn = begin(bench)?;
+        let txn = begin(leased)?;
         self.labels.name(label, txn);
         Ok(Answer::Number { number: txn })
     }
 
     fn insert_named<T: Table>(
         &mut self,
-        bench: &mut Bench<T>,
+        leased: &mut LeasedCore<T>,
         label: &Label,
         cells: Vec<Cell>,
     ) -> Result<Answer, Fault>
-        ensures { Answers (state_of bench.old self.old) (Command.Insert label.now cells) result (state_of bench.new self.new) }
+        ensures { Answers (state_of leased.old self.old) (Command.Insert label.now cells) result (state_of leased.new self.new) }
     {
         let row = Row::new(cells)?;
         let txn = self.labels.txn(label)?;
-        step(bench, Event::Insert { txn, row })
+        step(leased, Event::Insert { txn, row })
     }
 
     fn update_named<T: Table>(
         &mut self,
-        bench: &mut Bench<T>,
+        leased: &mut LeasedCore<T>,
         label: &Label,
         rid: Rid,
         cells: Vec<Cell>,
     ) -> Result<Answer, Fault>
-        ensures { Answers (state_of bench.old self.old) (Command.Update label.now rid cells) result (state_of bench.new self.new) }
+        ensures { Answers (state_of leased.old self.old) (Command.Update label.now rid cells) result (state_of leased.new self.new) }
     {
         let row = Row::new(cells)?;
         let txn = self.labels.txn(label)?;
-        step(bench, Event::Update { txn, rid, row })
+        step(leased, Event::Update { txn, rid, row })
     }
 
     fn delete_named<T: Table>(
         &mut self,
-        bench: &mut Bench<T>,
+        leased: &mut LeasedCore<T>,
         label: &Label,
         rid: Rid,
     ) -> Result<Answer, Fault>
-        ensures { Answers (state_of bench.old self.old) (Command.Delete label.now rid) result (state_of bench.new self.new) }
+        ensures { Answers (state_of leased.old self.old) (Command.Delete label.now rid) result (state_of leased.new self.new) }
     {
         let txn = self.labels.txn(label)?;
-        step(bench, Event::Delete { txn, rid })
+        step(leased, Event::Delete { txn, rid })
     }
 
     /// Undoes one write; the label names the transaction still.
-    fn undo_named<T: Table>(&mut self, bench: &mut Bench<T>, label: &Label) -> Result<Answer, Fault>
-        ensures { Answers (state_of bench.old self.old) (Command.Undo label.now) result (state_of bench.new self.new) }
+    fn undo_named<T: Table>(
+        &mut self,
+        leased: &mut LeasedCore<T>,
+        label: &Label,
+    ) -> Result<Answer, Fault>
+        ensures { Answers (state_of leased.old self.old) (Command.Undo label.now) result (state_of leased.new self.new) }
     {
         let txn = self.labels.txn(label)?;
-        step(bench, Event::Undo { txn })
+        step(leased, Event::Undo { txn })
     }
 
     fn commit_named<T: Table>(
         &mut self,
-        bench: &mut Bench<T>,
+        leased: &mut LeasedCore<T>,
         label: &Label,
     ) -> Result<Answer, Fault>
-        ensures { Answers (state_of bench.old self.old) (Command.Commit label.now) result (state_of bench.new self.new) }
+        ensures { Answers (state_of leased.old self.old) (Command.Commit label.now) result (state_of leased.new self.new) }
     {
         let txn = self.labels.txn(label)?;
-        step(bench, Event::Commit { txn })
+        step(leased, Event::Commit { txn })
     }
 
-    fn get<T: Table>(&mut self, bench: &mut Bench<T>, rid: Rid) -> Result<Answer, Fault>
-        ensures { Answers (state_of bench.old self.old) (Command.Get rid) result (state_of bench.new self.new) }
+    fn get<T: Table>(&mut self, leased: &mut LeasedCore<T>, rid: Rid) -> Result<Answer, Fault>
+        ensures { Answers (state_of leased.old self.old) (Command.Get rid) result (state_of leased.new self.new) }
     {
-        let row = bench.get(rid)?;
+        let row = leased.get(rid)?;
         Ok(Answer::Cells { row })
     }
 
-    fn start<T: Table>(&mut self, bench: &mut Bench<T>, start: Start) -> Result<Answer, Fault>
-        ensures { Answers (state_of bench.old self.old) (Command.Start start) result (state_of bench.new self.new) }
+    fn start<T: Table>(&mut self, leased: &mut LeasedCore<T>, start: Start) -> Result<Answer, Fault>
+        ensures { Answers (state_of leased.old self.old) (Command.Start start) result (state_of leased.new self.new) }
     {
-        if bench.core().is_building() {
+        if leased.core().is_building() {
             return Err(Fault::BuildRunning);
         }
         if !is_in_limits(start.workers, start.specs.len(), start.quota) {
             return Err(Fault::BadCount);
         }
         let plan = Plan {
-            specs: self.key_specs(bench.core(), start.specs)?,
+            specs: self.key_specs(leased.core(), start.specs)?,
             workers: start.workers,
             dealing: start.dealing,
             tries: 1,
             keep_pairs: false,
         };
-        let pages = bench.start(self.choice, start.quota, plan)?;
+        let pages = leased.start(self.choice, start.quota, plan)?;
         Ok(Answer::Number {
             number: u64::from(pages),
         })
@@ -235,11 +247,11 @@ impl Session {
     }
 
     /// Tries to bring the build's indexes into use, and notes whether one was refused.
-    fn switch<T: Table>(&mut self, bench: &mut Bench<T>) -> Result<Answer, Fault>
-        ensures { Answers (state_of bench.old self.old) Command.Switch result (state_of bench.new self.new) }
+    fn switch<T: Table>(&mut self, leased: &mut LeasedCore<T>) -> Result<Answer, Fault>
+        ensures { Answers (state_of leased.old self.old) Command.Switch result (state_of leased.new self.new) }
     {
-        let specs = build_specs(self.alloc, bench.core())?;
-        let (number, verdicts, pages) = bench.switch()?;
+        let specs = build_specs(self.alloc, leased.core())?;
+        let (number, verdicts, pages) = leased.switch()?;
         if !has_refused(&verdicts) {
             return Ok(Answer::Switched {
                 number,
@@ -257,10 +269,10 @@ impl Session {
         })
     }
 
-    fn abandon<T: Table>(&mut self, bench: &mut Bench<T>) -> Result<Answer, Fault>
-        ensures { Answers (state_of bench.old self.old) Command.Abandon result (state_of bench.new self.new) }
+    fn abandon<T: Table>(&mut self, leased: &mut LeasedCore<T>) -> Result<Answer, Fault>
+        ensures { Answers (state_of leased.old self.old) Command.Abandon result (state_of leased.new self.new) }
     {
-        let pages = bench.abandon()?;
+        let pages = leased.abandon()?;
         Ok(Answer::Abandoned { pages })
     }
 
@@ -295,11 +307,11 @@ impl Session {
         Ok(Answer::Pairs { lines })
     }
 
-    fn rest<T: Table>(&mut self, bench: &mut Bench<T>, spec: Spec) -> Result<Answer, Fault>
-        ensures { Answers (state_of bench.old self.old) (Command.Rest spec) result (state_of bench.new self.new) }
+    fn rest<T: Table>(&mut self, leased: &mut LeasedCore<T>, spec: Spec) -> Result<Answer, Fault>
+        ensures { Answers (state_of leased.old self.old) (Command.Rest spec) result (state_of leased.new self.new) }
     {
-        let spec = self.key_spec(bench.core(), spec)?;
-        let pairs = bench.rest(&spec)?;
+        let spec = self.key_spec(leased.core(), spec)?;
+        let pairs = leased.rest(&spec)?;
         let lines = pair_lines(self.alloc, &spec, pairs.as_slice())?;
         Ok(Answer::Pairs { lines })
     }
@@ -316,11 +328,11 @@ impl Session {
 }
 
 /// Runs an event that stands for a whole command.
-fn step<T: Table>(bench: &mut Bench<T>, event: Event) -> Result<Answer, Fault>
+fn step<T: Table>(leased: &mut LeasedCore<T>, event: Event) -> Result<Answer, Fault>
     requires { KeepsBuild event }
-    ensures { Happens event bench.old (answer_of result) bench.new }
+    ensures { Happens event leased.old (answer_of result) leased.new }
 {
-    Ok(match bench.step(event) {
+    Ok(match leased.step(event) {
         Reply::Begun { txn } => Answer::Number { number: txn },
         Reply::Written { number, rid } => Answer::Written { number, rid },
         Reply::Undone { number, left } => Answer::Undone { number, left },

@@ -5,56 +5,56 @@ ghost use Rattle.build_events.specs.declared.event.Event.{Event};
 ghost use Rattle.build_events.specs.declared.reply.Reply.{Reply};
 ghost use Rattle.replay.specs.Answers.{FailsToPut, PutsRow, TakesBack};
 
-use crate::bench::Bench;
 use builder_core::Table;
 use heap_table::Undone;
 use keybytes::{Fault, Rid, Row};
+use leased_core::LeasedCore;
 
 /// Begins a transaction, and answers its number.
-pub fn begin<T: Table>(bench: &mut Bench<T>) -> Result<u64, Fault>
-    ensures ok { IfOk result (λ txn. Step bench.old Event.Begin (Reply.Begun txn) bench.new) }
-    ensures refused { IfErr result (λ fault. Step bench.old Event.Begin (Reply.Refused fault) bench.new) }
+pub fn begin<T: Table>(leased: &mut LeasedCore<T>) -> Result<u64, Fault>
+    ensures ok { IfOk result (λ txn. Step leased.old Event.Begin (Reply.Begun txn) leased.new) }
+    ensures refused { IfErr result (λ fault. Step leased.old Event.Begin (Reply.Refused fault) leased.new) }
 {
-    bench.begin()
+    leased.begin()
 }
 
 /// Inserts a row, and answers where it stands.
-pub fn insert<T: Table>(bench: &mut Bench<T>, txn: u64, row: Row) -> Result<Rid, Fault>
-    ensures ok { IfOk result (λ rid. (number : ℕ) × Step bench.old (Event.Insert txn row) (Reply.Written number rid) bench.new) }
-    ensures refused { IfErr result (λ fault. Step bench.old (Event.Insert txn row) (Reply.Refused fault) bench.new) }
+pub fn insert<T: Table>(leased: &mut LeasedCore<T>, txn: u64, row: Row) -> Result<Rid, Fault>
+    ensures ok { IfOk result (λ rid. (number : ℕ) × Step leased.old (Event.Insert txn row) (Reply.Written number rid) leased.new) }
+    ensures refused { IfErr result (λ fault. Step leased.old (Event.Insert txn row) (Reply.Refused fault) leased.new) }
 {
-    let (_number, rid) = bench.insert(txn, row)?;
+    let (_number, rid) = leased.insert(txn, row)?;
     Ok(rid)
 }
 
 /// Commits a transaction.
-pub fn commit<T: Table>(bench: &mut Bench<T>, txn: u64) -> Result<(), Fault>
-    ensures ok { OnOk result ((number : ℕ) × Step bench.old (Event.Commit txn) (Reply.Committed number) bench.new) }
-    ensures refused { IfErr result (λ fault. Step bench.old (Event.Commit txn) (Reply.Refused fault) bench.new) }
+pub fn commit<T: Table>(leased: &mut LeasedCore<T>, txn: u64) -> Result<(), Fault>
+    ensures ok { OnOk result ((number : ℕ) × Step leased.old (Event.Commit txn) (Reply.Committed number) leased.new) }
+    ensures refused { IfErr result (λ fault. Step leased.old (Event.Commit txn) (Reply.Refused fault) leased.new) }
 {
-    let _number = bench.commit(txn)?;
+    let _number = leased.commit(txn)?;
     Ok(())
 }
 
 /// Inserts a row and commits, and answers where the row stands.
-pub fn put<T: Table>(bench: &mut Bench<T>, txn: u64, row: Row) -> Result<Rid, Fault>
-    ensures ok { IfOk result (λ rid. PutsRow row txn bench.old rid bench.new) }
-    ensures refused { IfErr result (λ fault. FailsToPut row txn bench.old fault bench.new) }
+pub fn put<T: Table>(leased: &mut LeasedCore<T>, txn: u64, row: Row) -> Result<Rid, Fault>
+    ensures ok { IfOk result (λ rid. PutsRow row txn leased.old rid leased.new) }
+    ensures refused { IfErr result (λ fault. FailsToPut row txn leased.old fault leased.new) }
 {
-    let rid = insert(bench, txn, row)?;
-    commit(bench, txn)?;
+    let rid = insert(leased, txn, row)?;
+    commit(leased, txn)?;
     Ok(rid)
 }
 
 /// Undoes the transaction's writes until it has ended. Where an undo is refused, because memory is wanting, the transaction stays
 /// open.
-pub fn take_back<T: Table>(bench: &mut Bench<T>, txn: u64)
-    ensures { (more : ℕ) × TakesBack more bench.old txn bench.new }
+pub fn take_back<T: Table>(leased: &mut LeasedCore<T>, txn: u64)
+    ensures { (more : ℕ) × TakesBack more leased.old txn leased.new }
 {
-    let Ok(Undone { left, .. }) = bench.undo(txn) else {
+    let Ok(Undone { left, .. }) = leased.undo(txn) else {
         return;
     };
     if left > 0 {
-        take_back(bench, txn);
+        take_back(leased, txn);
     }
 }

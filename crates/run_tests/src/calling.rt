@@ -18,7 +18,11 @@ fn least<S: Spool>(alloc: Global, heap: &mut Heap, mut spools: Vec<S>) -> Result
 {
     fill(alloc, heap, true, spools.as_mut_slice())?;
     match merge(alloc, spools) {
-        Ok(mut merged) => Ok(merged.next()?.map(|pair| pair.rid)),
+        Ok(mut merged) => {
+            let first = merged.next();
+            let _spools = merged.into_spools();
+            Ok(first?.map(|pair| pair.rid))
+        }
         Err((_, fault)) => Err(fault),
     }
 }

@@ -8,8 +8,9 @@ use crate::records::record_texts;
 use crate::story::Story;
 use builder_core::{Parts, Table};
 use keybytes::Fault;
+use leased_core::LeasedCore;
 use picture::{PictureError, ROWS_MAX, svg};
-use replay::{Bench, Session, Status, refuse, table_parts};
+use replay::{Session, Status, refuse, table_parts};
 use script::{NumberedCommand, Script, read_text};
 use std::alloc::Global;
 use std::io::{Read, Write};
@@ -118,25 +119,25 @@ fn run_table<T: Table>(
     ensures { IfOk result (RunsOn parts.heap commands.items) }
 {
     let (live, ends) = parts.open::<T>();
-    let mut bench = Bench::new(alloc, live, ends);
+    let mut leased = LeasedCore::new(alloc, live, ends);
     let mut session = Session::new(alloc);
-    let seen = run_all(&mut session, &mut bench, commands, story);
-    let _missing = bench.close();
+    let seen = run_all(&mut session, &mut leased, commands, story);
+    let _missing = leased.close();
     seen?;
     Ok(session.status())
 }
 
 fn run_all<T: Table>(
     session: &mut Session,
-    bench: &mut Bench<T>,
+    leased: &mut LeasedCore<T>,
     commands: Vec<NumberedCommand>,
     story: &mut Story,
 ) -> Result<(), Failure>
-    ensures { OnOk result (RunsAll (state_of bench.old session.old) commands.items (state_of bench.new session.new)) }
+    ensures { OnOk result (RunsAll (state_of leased.old session.old) commands.items (state_of leased.new session.new)) }
 {
     story.table(None)?;
     for command in commands {
-        run_next(session, bench, command, story)?;
+        run_next(session, leased, command, story)?;
     }
     Ok(())
 }
@@ -144,13 +145,13 @@ fn run_all<T: Table>(
 /// Runs the next command, and looks at the table before and behind it.
 fn run_next<T: Table>(
     session: &mut Session,
-    bench: &mut Bench<T>,
+    leased: &mut LeasedCore<T>,
     command: NumberedCommand,
     story: &mut Story,
 ) -> Result<(), Failure>
-    ensures { OnOk result (RunsNext (state_of bench.old session.old) command (state_of bench.new session.new)) }
+    ensures { OnOk result (RunsNext (state_of leased.old session.old) command (state_of leased.new session.new)) }
 {
-    let deed = story.before(bench.core(), &command.command)?;
-    let answer = session.run(bench, command.command);
-    story.after(bench.core(), &deed, &answer)
+    let deed = story.before(leased.core(), &command.command)?;
+    let answer = session.run(leased, command.command);
+    story.after(leased.core(), &deed, &answer)
 }

@@ -17,7 +17,8 @@ use crate::status_line::StatusLine;
 use crate::word::Word;
 use builder_core::Table;
 use keybytes::Fault;
-use replay::{Answer, Bench, Output, OutputFailed, Session, refuse_table, table_parts};
+use leased_core::LeasedCore;
+use replay::{Answer, Output, OutputFailed, Session, refuse_table, table_parts};
 use script::{Command, Explanation, InputRecord, Line};
 use std::alloc::{AllocFailed, Global};
 use std::io::Write;
@@ -93,14 +94,14 @@ fn make_table<W: Write + Drop>(
 pub fn answer_on_table<T: Table, W: Write + Drop>(
     alloc: Global,
     session: &mut Session,
-    bench: &mut Bench<T>,
+    leased: &mut LeasedCore<T>,
     counts: &mut Counts,
     next: NumberedRecord,
     output: &mut Output<W>,
 ) -> Result<bool, Failed>
-    ensures run { OnOk result (RunsAll (state_of bench.old session.old) (commands_told next.number (next.record ∷ [])) (state_of bench.new session.new)) }
+    ensures run { OnOk result (RunsAll (state_of leased.old session.old) (commands_told next.number (next.record ∷ [])) (state_of leased.new session.new)) }
     ensures counts { OnOk result (CountsFollow (line_in next.record)
-        (state_of bench.old session.old) counts.old (state_of bench.new session.new) counts.new) }
+        (state_of leased.old session.old) counts.old (state_of leased.new session.new) counts.new) }
     ensures goes_on { result ≡ Ok true → ¬ (IsQuit next.record) }
     ensures quits { result ≡ Ok false → IsQuit next.record }
 {
@@ -113,7 +114,7 @@ pub fn answer_on_table<T: Table, W: Write + Drop>(
             &Explanation::LateTable,
         )?,
         InputRecord::Good(Line::Command(command)) => {
-            let answer = answer_command(session, bench, counts, command);
+            let answer = answer_command(session, leased, counts, command);
             output.print(number, &answer)?;
         }
         InputRecord::Bad(explanation) => print_bad(output, number, &explanation)?,
@@ -123,7 +124,7 @@ pub fn answer_on_table<T: Table, W: Write + Drop>(
                 return Ok(false);
             }
             if asks_for_status(number, text, output)? {
-                print_lines(number, report(alloc, bench.core(), counts), output)?;
+                print_lines(number, report(alloc, leased.core(), counts), output)?;
             }
         }
     }
@@ -133,15 +134,15 @@ pub fn answer_on_table<T: Table, W: Write + Drop>(
 /// Runs a command, and notes what it is answered.
 fn answer_command<T: Table>(
     session: &mut Session,
-    bench: &mut Bench<T>,
+    leased: &mut LeasedCore<T>,
     counts: &mut Counts,
     command: Command,
 ) -> Answer
-    ensures run { Runs (state_of bench.old session.old) command result (state_of bench.new session.new) }
+    ensures run { Runs (state_of leased.old session.old) command result (state_of leased.new session.new) }
     ensures counts { counts.new ≡ counts_after counts.old (asked_by command) result }
 {
     let asked = Asked::of(&command);
-    let answer = session.run(bench, command);
+    let answer = session.run(leased, command);
     counts.note(asked, &answer);
     answer
 }

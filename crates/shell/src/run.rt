@@ -9,7 +9,8 @@ use crate::counts::Counts;
 use crate::failed::Failed;
 use crate::input::Input;
 use builder_core::{Parts, Table};
-use replay::{Bench, Output, Session, Status};
+use leased_core::LeasedCore;
+use replay::{Output, Session, Status};
 use std::alloc::Global;
 use std::io::{Read, Write};
 use std::marker::Brand;
@@ -109,10 +110,10 @@ fn use_table<T: Table, R: Read + Drop, W: Write + Drop, P: Write + Drop>(
     ensures { IfOk result (EndsOn input.old parts.heap) }
 {
     let (live, ends) = parts.open::<T>();
-    let mut bench = Bench::new(alloc, live, ends);
+    let mut leased = LeasedCore::new(alloc, live, ends);
     let mut session = Session::new(alloc);
-    let answered = answer_all(alloc, &mut session, &mut bench, &mut counts, input, output);
-    let _missing = bench.close();
+    let answered = answer_all(alloc, &mut session, &mut leased, &mut counts, input, output);
+    let _missing = leased.close();
     answered?;
     Ok(session.status())
 }
@@ -120,18 +121,18 @@ fn use_table<T: Table, R: Read + Drop, W: Write + Drop, P: Write + Drop>(
 fn answer_all<T: Table, R: Read + Drop, W: Write + Drop, P: Write + Drop>(
     alloc: Global,
     session: &mut Session,
-    bench: &mut Bench<T>,
+    leased: &mut LeasedCore<T>,
     counts: &mut Counts,
     input: &mut Input<R, P>,
     output: &mut Output<W>,
 ) -> Result<(), Failed>
-    ensures { OnOk result (TalksOn input.old (state_of bench.old session.old) (state_of bench.new session.new)) }
+    ensures { OnOk result (TalksOn input.old (state_of leased.old session.old) (state_of leased.new session.new)) }
 {
     for _ in 0..u64::MAX {
         let Some(next) = input.next()? else {
             return Ok(());
         };
-        let goes_on = answer_on_table(alloc, session, bench, counts, next, output)?;
+        let goes_on = answer_on_table(alloc, session, leased, counts, next, output)?;
         output.flush()?;
         if !goes_on {
             return Ok(());

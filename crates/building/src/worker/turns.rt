@@ -3,12 +3,12 @@ ghost use Rattle.std.specs.Prelude.{IfOk, IfErr};
 ghost use Rattle.building.specs.Turns.{AnswersTurn, HasDone, HasLooked, IsStopped};
 
 use super::Worker;
-use crate::{Table, Turn};
+use crate::Turn;
 use keybytes::Fault;
 use run_maker::{RunSort, StdSort};
 use run_spool::Spool;
 
-impl<S: Spool, T: Table> Worker<S, T> {
+impl<S: Spool> Worker<S> {
     /// Looks into its ring, and answers how many copies it has seen there. It needs no lock: a worker in a thread of its own looks before its
     /// digests and seals, which take what was seen.
     pub fn look(&mut self) -> usize

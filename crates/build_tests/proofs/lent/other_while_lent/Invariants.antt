@@ -1,7 +1,9 @@
+use Rattle.std.specs.Prelude.{List}
+use Rattle.side_file.specs.Ends.{RingId}
 use Rattle.build_work.specs.BuildingValue.{BuildingValue}
 use Rattle.build_work.specs.Lent.{AreBack}
 use Rattle.build_tests.proofs.lent.other_while_lent.Given as goal
 
 -- they are all back, if they were at first
 abbrev pub invariant-loop-number : goal.invariant-loop-number
-invariant-loop-number g l = (rest : BuildingValue) → AreBack rest l.fn.workers.items → AreBack rest l.workers.items
+invariant-loop-number g l = (rings : List RingId) (rest : BuildingValue) → AreBack rings rest l.fn.workers.items → AreBack rings rest l.workers.items

@@ -1,19 +1,10 @@
 use Rattle.std.proofs.Common.{◌≡◌, ◌++◌, List, length, map, ap, ◌∙◌, arith}
 use Rattle.std.specs.Vec.Iter.{into_iter_items}
-use Rattle.building.specs.IntakeValue.{IntakeValue}
 use Rattle.building.specs.SpoolValue.{spool_value}
 use Rattle.building.specs.WorkerValue.{WorkerValue}
 use Rattle.build_work.specs.Holding.{workers_spools}
-use Rattle.build_work.proofs.Equipping.{more_lent, next_ring}
-use Rattle.building.proofs.Places.{at_index}
+use Rattle.build_work.proofs.Equipping.{more_lent}
 use Rattle.build_work.proofs.equipment.add_one.Goals as goal
-
-pub new-requires-clause-ring : goal.new-requires-clause-ring
-new-requires-clause-ring g c =
-    let idle : List IntakeValue = c.args.idle.now.items in
-    let it : IntakeValue = c.remove-intake.result in
-    let many : c.len-number.result ≡ length c.args.workers.now.items = omega (arith, c.len-number.ensures, c.args.workers.now.ok) in
-    next_ring c.args.workers.now.items idle it g.T.Table.pages c.len-number.result c.requires.rings (at_index idle 0 it c.remove-intake.ensures.value c.requires.next) many
 
 pub returns-clause-lent : goal.returns-clause-lent
 returns-clause-lent g c =

@@ -1,7 +1,7 @@
 use Rattle.std.proofs.Common.{◌≡◌, ◌∙◌, ◌+◌, ◌≤◌, ◌<◌, ◌++◌, List, length, refl, sym, ap, subst, arith, Option, Some}
 use Rattle.std.specs.Prelude.{IfSome}
 use Rattle.std.specs.List.{slice_get}
-use Rattle.std.proofs.lemmas.Option.{get_or_from_slice_get, same_Some}
+use Rattle.std.proofs.lemmas.Option.{same_Some}
 use Rattle.side_file.specs.Ends.{PutEnd, RingId}
 use Rattle.building.specs.WorkerValue.{WorkerValue}
 use Rattle.building.specs.declared.copied.Copied.{Copied}
@@ -21,9 +21,7 @@ waiting-requires g c =
     let here : slice_get workers c.args.worker ≡ Some it = at_index workers c.args.worker it c.index_mut.ensures.value c.requires.there in
     let table : slice_get g.T.Table.pages c.args.worker ≡ Some put.ring =
     ap (λ (rings : List RingId). slice_get rings c.args.worker) (sym c.requires.rings) ∙ map_at (λ (e : PutEnd Copied). e.ring) pages c.args.worker put there in
-    let own : it.intake.end.ring ≡ put.ring = same_Some it.intake.end.ring put.ring (sym (c.requires.at c.args.worker it here) ∙ table) in
-    let same : c.index.result.now ≡ it = c.index.ensures ∙ get_or_from_slice_get workers c.args.worker it c.index.result.now here in
-    subst (λ (w : WorkerValue). slice_get g.T.Table.pages w.number ≡ Some w.intake.end.ring) same c.laws.ensures.ring ∙ ap (λ (r : RingId). Some r) own
+    same_Some put.ring it.intake.end.ring (sym table ∙ c.requires.at c.args.worker it here)
 
 pub returns-clause-looked : goal.returns-clause-looked
 returns-clause-looked g c =

@@ -23,14 +23,14 @@ spawn_with-requires-send-F g c = λ κs known.
     ∷ ShrRef (named 7) κs.1.1.1.1.1.1.1.0 (Table.the_row (param 1 g.row.T) g.T.Opened g.T.Named g.T.Table)
     ∷ ShrRef (named 8) κs.1.1.1.1.1.1.1.1.0 RangeQueue.the_row
     ∷ ShrRef (named 9) κs.1.1.1.1.1.1.1.1.1.0 (param 2 g.row.G)
-    ∷ Worker.the_row (param 0 g.row.S) (param 1 g.row.T) g.S.Spool g.T.Table
+    ∷ Worker.the_row (param 0 g.row.S) g.S.Spool
     ∷ [])) = captured_send []
     (ShrRef (named 6) κs.1.1.1.1.1.1.0 (param 3 g.row.R)
     ∷ Global.the_row
     ∷ ShrRef (named 7) κs.1.1.1.1.1.1.1.0 (Table.the_row (param 1 g.row.T) g.T.Opened g.T.Named g.T.Table)
     ∷ ShrRef (named 8) κs.1.1.1.1.1.1.1.1.0 RangeQueue.the_row
     ∷ ShrRef (named 9) κs.1.1.1.1.1.1.1.1.1.0 (param 2 g.row.G)
-    ∷ Worker.the_row (param 0 g.row.S) (param 1 g.row.T) g.S.Spool g.T.Table
+    ∷ Worker.the_row (param 0 g.row.S) g.S.Spool
     ∷ []) (
       search (c.type_bounds.sync-R, sendable) depth 10,
       (

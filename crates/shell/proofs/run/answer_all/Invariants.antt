@@ -8,4 +8,4 @@ use Rattle.shell.proofs.run.answer_all.Given as goal
 abbrev pub invariant-loop : goal.invariant-loop
 invariant-loop g l =
     (told : List InputRecord) × Gives l.fn.input told l.input × GoesOn told
-    × RunsAll (state_of l.fn.bench l.fn.session) (commands_told (l.fn.input.given + 1) told) (state_of l.bench l.session)
+    × RunsAll (state_of l.fn.leased l.fn.session) (commands_told (l.fn.input.given + 1) told) (state_of l.leased l.session)

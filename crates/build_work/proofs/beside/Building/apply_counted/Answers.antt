@@ -58,6 +58,7 @@ invariant_of-self-in-Break-1 g c = (
       c.requires.can.taking c.self.inside.workers.items (map (spool_value g.S.Spool.runs g.S.Spool.open_run g.S.Spool.stake) c.self.inside.spools.items)
       c.apply-taken.new.ring c.apply-taken.ensures.entries _ c.apply-taken.new.built c.apply-taken.ensures.taken c.apply-taken.ensures.applied c.laws.ensures
       c.self.invariant.6,
+  c.self.invariant.7,
 )
 
 pub overflow_add-it : goal.overflow_add-it
@@ -83,4 +84,5 @@ invariant_of-self-2 g c = (
       c.requires.can.taking c.self.inside.workers.items (map (spool_value g.S.Spool.runs g.S.Spool.open_run g.S.Spool.stake) c.self.inside.spools.items)
       c.apply-taken.new.ring c.apply-taken.ensures.entries _ c.apply-taken.new.built c.apply-taken.ensures.taken c.apply-taken.ensures.applied c.laws.ensures
       c.self.invariant.6,
+  c.self.invariant.7,
 )

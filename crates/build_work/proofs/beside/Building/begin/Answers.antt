@@ -31,6 +31,7 @@ invariant_of-self g c =
       λ given. absurd (cc),
       λ given nothing. absurd (cc),
       kept,
+      λ place worker at. (c.equip.ensures.workers place worker at).number,
     )
 
 pub equip-requires-clause-empty : goal.equip-requires-clause-empty

@@ -29,4 +29,5 @@ invariant_of-self g c =
       c.self.invariant.5,
       subst (λ (o : Option WorkValue). KeepsWork c.self.inside.workers.items (map take_end c.empty_all.new.ends.items)
           (map (spool_value g.S.Spool.runs g.S.Spool.open_run g.S.Spool.stake) c.self.inside.spools.items) o) (sym idle) tt,
+      c.self.invariant.7,
     )

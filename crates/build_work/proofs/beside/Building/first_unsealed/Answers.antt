@@ -1,5 +1,8 @@
+use Rattle.std.proofs.Common.{All, subst, sym}
 use Rattle.build_work.proofs.Looked.{beside_looked}
-use Rattle.build_work.proofs.Looks.{few_with_pages, ring_at}
+use Rattle.build_work.proofs.Looks.{ends_same, few_with_pages, ring_at, rings_looked}
+use Rattle.build_work.proofs.Numbered.{numbered_looked, their_rings}
+use Rattle.build_work.specs.Keeping.{HasItsRing}
 use Rattle.build_work.proofs.beside.Building.first_unsealed.Goals as goal
 
 pub first_unsealed-unsealed-requires-clause-few : goal.first_unsealed-unsealed-requires-clause-few
@@ -8,6 +11,15 @@ first_unsealed-unsealed-requires-clause-few g c =
 
 pub first_unsealed-unsealed-requires-clause-at : goal.first_unsealed-unsealed-requires-clause-at
 first_unsealed-unsealed-requires-clause-at g c = ring_at _ _ c.self.inside.workers.items c.self.inside.idle.items _ c.self.invariant.0
+
+pub laws_of-requires : goal.laws_of-requires
+laws_of-requires g c =
+    let old = c.self.inside.workers.items in
+    let new = c.first_unsealed-unsealed.new.workers.items in
+    let same = c.first_unsealed-unsealed.ensures.looked.same in
+    let ends = ends_same _ _ old new c.self.inside.idle.items _ c.self.invariant.0 (rings_looked old new same) in
+    subst (All (HasItsRing g.T.Table.pages)) (sym c.deref.ensures.value)
+    (their_rings _ _ new c.self.inside.idle.items _ ends (numbered_looked old new same c.self.invariant.7))
 
 pub invariant_of-self : goal.invariant_of-self
 invariant_of-self g c =

@@ -19,6 +19,7 @@ invariant_of-self g c =
       λ given. let nothing = c.self.invariant.4 given in let some = c.in-Some.is in absurd (cc),
       λ given nothing. absurd (cc),
       λ fine. absurd (cc),
+      c.self.invariant.7,
     )
 
 pub returns-in-Err-clause-spoiled : goal.returns-in-Err-clause-spoiled

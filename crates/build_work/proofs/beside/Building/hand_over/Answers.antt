@@ -1,11 +1,16 @@
-use Rattle.std.proofs.Common.{◌≡◌, List, All, length, map, ap, subst, arith}
+use Rattle.std.proofs.Common.{◌≡◌, List, All, length, map, ap, subst, sym, arith}
 use Rattle.std.proofs.lemmas.List.{length-map}
 use Rattle.building.specs.SpoolValue.{spool_value}
 use Rattle.building.specs.WorkerValue.{WorkerValue}
-use Rattle.build_work.specs.Keeping.{KeepsLaws}
+use Rattle.build_work.specs.Keeping.{HasItsRing, KeepsLaws}
 use Rattle.build_work.proofs.BroughtHome.{ends_kept, none_away}
 use Rattle.build_work.proofs.HandedKept.{handed_over_kept}
+use Rattle.build_work.proofs.Numbered.{numbered_handed, their_rings}
 use Rattle.build_work.proofs.beside.Building.hand_over.Goals as goal
+
+pub laws_of-requires : goal.laws_of-requires
+laws_of-requires g c =
+    subst (All (HasItsRing g.T.Table.pages)) (sym c.deref.ensures.value) (their_rings _ _ c.self.inside.workers.items c.self.inside.idle.items _ c.self.invariant.0 c.self.invariant.7)
 
 pub invariant_of-self : goal.invariant_of-self
 invariant_of-self g c =
@@ -27,4 +32,5 @@ invariant_of-self g c =
       λ given. let none = c.self.invariant.4 given in let some = c.in-Some.is in absurd (cc),
       λ given none. absurd (cc),
       kept,
+      numbered_handed old new is c.self.invariant.7,
     )

@@ -1,9 +1,14 @@
-use Rattle.std.proofs.Common.{All, length, ap, refl, subst, arith}
+use Rattle.std.proofs.Common.{All, length, ap, refl, subst, sym, arith}
 use Rattle.std.proofs.lemmas.List.{length-map, nil_from_length}
 use Rattle.building.specs.SpoolValue.{spool_value}
-use Rattle.build_work.specs.Keeping.{KeepsLaws}
+use Rattle.build_work.specs.Keeping.{HasItsRing, KeepsLaws}
 use Rattle.build_work.proofs.LentBack.{is_lent}
+use Rattle.build_work.proofs.Numbered.{their_rings}
 use Rattle.build_work.proofs.beside.Building.lend.Goals as goal
+
+pub laws_of-requires : goal.laws_of-requires
+laws_of-requires g c =
+    subst (All (HasItsRing g.T.Table.pages)) (sym c.deref.ensures.value) (their_rings _ _ c.self.inside.workers.items c.self.inside.idle.items _ c.self.invariant.0 c.self.invariant.7)
 
 pub invariant_of-rest : goal.invariant_of-rest
 invariant_of-rest g c =

@@ -124,6 +124,7 @@ invariant_of-self-in-Err g c =
       λ given. let none = c.self.invariant.4 given in let some = c.in-Some.is in absurd (cc),
       λ given none. absurd (cc),
       λ fine. absurd (cc),
+      c.self.invariant.7,
     )
 
 pub invariant_of-self-2 : goal.invariant_of-self-2
@@ -155,4 +156,5 @@ invariant_of-self-2 g c =
       λ given none. absurd (cc),
       subst (λ (w : WorkValue). KeepsWork workers (map take_end c.self.inside.side_ends.items) (map value merged.new.spools.items)
           (Some (record w { indexes = set w.indexes c.args.index (record { built = Some built; applied = 0 }) }))) (sym c.work.view_is) kept,
+      c.self.invariant.7,
     )

@@ -15,6 +15,7 @@ invariant_of-self g c = (
   side_end_kept c.self.inside.workers.items (map (spool_value g.S.Spool.runs g.S.Spool.open_run g.S.Spool.stake) c.self.inside.spools.items) c.self.inside.work
       c.self.inside.side_ends.items c.args.index c.index_mut.result.now c.slots.new.self c.index_mut.ensures.value
       (omega (arith, eight_ends _ _ _ c.self.inside.side_ends.items c.self.invariant.0, c.requires)) c.slots.ensures.looked.1 c.self.invariant.6,
+  c.self.invariant.7,
 )
 
 pub returns : goal.returns

@@ -6,6 +6,7 @@ use Rattle.build_work.specs.BuildingValue.{BuildingValue, WorkValue}
 use Rattle.build_work.specs.Keeping.{KeepsWork}
 use Rattle.building.proofs.Places.{at_index}
 use Rattle.build_work.proofs.Kept.{turn_kept}
+use Rattle.build_work.proofs.Numbered.{numbered_set}
 use Rattle.build_work.proofs.Stepping.{as_many_after, done_step, ends_stay, same_after, stopped_step}
 use Rattle.build_work.proofs.beside.Building.take.Goals as goal
 
@@ -30,6 +31,7 @@ invariant_of-self g c =
       turn_kept workers (map take_end c.self.inside.side_ends.items) (map value c.self.inside.spools.items) c.in-Some.work c.note_fault.new.work c.args.worker it after
           at (subst (λ (o : Option WorkValue). KeepsWork workers (map take_end c.self.inside.side_ends.items) (map value c.self.inside.spools.items) o) c.in-Some.is
           c.self.invariant.6) c.args.turn c.take-answer.result c.note_fault.ensures.fine c.note_fault.ensures.spoiled c.take-answer.ensures.done,
+      numbered_set workers c.args.worker it after at stays.number c.self.invariant.7,
     )
 
 pub returns-clause-did : goal.returns-clause-did

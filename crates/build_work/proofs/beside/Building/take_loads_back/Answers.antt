@@ -81,6 +81,7 @@ invariant_of-self g c =
       λ given. let nothing = c.self.invariant.4 given in let some = c.in-Some.is in absurd (cc),
       λ given nothing. absurd (cc),
       λ fine. let some = c.in-Some-spoiled.is in absurd (cc),
+      c.self.invariant.7,
     )
 
 pub returns-in-Some-spoiled-clause-memory : goal.returns-in-Some-spoiled-clause-memory
@@ -133,6 +134,7 @@ invariant_of-self-2 g c =
       λ given. let nothing = c.self.invariant.4 given in let some = c.in-Some.is in absurd (cc),
       λ given nothing. absurd (cc),
       subst Kept (sym there) kept,
+      c.self.invariant.7,
     )
 
 pub returns-clause-loaded : goal.returns-clause-loaded

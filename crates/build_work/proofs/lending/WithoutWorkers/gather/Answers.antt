@@ -1,4 +1,4 @@
-use Rattle.std.proofs.Common.{◌≡◌, ◌∙◌, ◌+◌, ◌-◌, ◌*◌, ℕ, [], All, List, Option, Some, length, map, ap, sym, subst, arith}
+use Rattle.std.proofs.Common.{◌≡◌, ◌∙◌, ◌+◌, ◌-◌, ◌*◌, ℕ, [], List, Option, Some, length, map, ap, sym, subst, arith}
 use Rattle.std.specs.List.{slice_get}
 use Rattle.std.proofs.lemmas.Option.{same_Some}
 use Rattle.keybytes.specs.declared.fault.Fault.{Fault}
@@ -8,7 +8,7 @@ use Rattle.building.specs.TakeEnd.{take_end}
 use Rattle.building.specs.WorkerValue.{WorkerValue}
 use Rattle.build_work.specs.BuildingValue.{BuildingValue, WorkValue}
 use Rattle.build_work.specs.Holding.{all_spools}
-use Rattle.build_work.specs.Keeping.{KeepsLaws, KeepsWork}
+use Rattle.build_work.specs.Keeping.{KeepsWork}
 use Rattle.build_work.specs.Lent.{IsBack, lowest_fault}
 use Rattle.build_work.proofs.LentBack.{ends_back, spools_many, work_back}
 use Rattle.build_work.proofs.lending.WithoutWorkers.gather.Goals as goal
@@ -25,15 +25,14 @@ invariant_of-result g c =
     let same : c.requires.work ≡ work =
     same_Some c.requires.work work (sym c.requires.runs ∙ sym (ap (λ (b : BuildingValue). b.work) c.self.view_is)) in
     let all : length workers + length idle ≡ 16 = let there = ap (λ (b : BuildingValue). length b.idle) c.self.view_is in omega (arith, c.requires.all, there) in
-    let back : (k : ℕ) (worker : WorkerValue) → slice_get workers k ≡ Some worker → IsBack work.build work.specs k worker =
-    subst (λ (w : WorkValue). (k : ℕ) (worker : WorkerValue) → slice_get workers k ≡ Some worker → IsBack w.build w.specs k worker) same c.requires.each in
-    let laws : All (KeepsLaws g.T.Table.pages) workers = subst (All (KeepsLaws g.T.Table.pages)) c.deref.ensures.value c.laws_of.ensures in
+    let back : (k : ℕ) (worker : WorkerValue) → slice_get workers k ≡ Some worker → IsBack g.T.Table.pages work.build work.specs k worker =
+    subst (λ (w : WorkValue). (k : ℕ) (worker : WorkerValue) → slice_get workers k ≡ Some worker → IsBack g.T.Table.pages w.build w.specs k worker) same c.requires.each in
     let none : map value c.self.inside.spools.items ≡ [] = ap (map value) c.self.invariant.1 in
     let many = ap (λ (l : List SpoolValue). length (all_spools workers l)) none ∙ spools_many work.specs workers (λ k worker at. (back k worker at).own) in
     let place : 16 - length idle ≡ length workers = omega (arith, all) in
-    let stopped : c.first_stopped-work-inside.result ≡ lowest_fault workers = c.first_stopped-work-inside.ensures ∙ ap lowest_fault c.deref-2.ensures.value in
+    let stopped : c.first_stopped-work-inside.result ≡ lowest_fault workers = c.first_stopped-work-inside.ensures ∙ ap lowest_fault c.deref.ensures.value in
     let room = ap (λ n. n * length work.specs) place in (
-      ends_back _ _ workers idle ends work stays all (λ k worker at. (back k worker at).number) laws,
+      ends_back _ _ workers idle ends work stays all (λ k worker at. (back k worker at).ring),
       c.self.invariant.2,
       omega (arith, many, room, c.self.invariant.3),
       λ nothing. absurd (cc),
@@ -44,4 +43,5 @@ invariant_of-result g c =
           (subst (λ (o : Option Fault). KeepsWork workers ends (map value c.self.inside.spools.items) (Some (record work { spoiled = o }))) (sym stopped)
           (subst (λ (l : List SpoolValue). KeepsWork workers ends l (Some (record work { spoiled = lowest_fault workers }))) (sym none)
           (work_back _ _ workers idle ends work stays back))),
+      λ place worker at. (back place worker at).number,
     )

@@ -5,7 +5,6 @@ use Rattle.building.proofs.worker.Worker.new.Goals as goal
 
 pub invariant_of-result : goal.invariant_of-result
 invariant_of-result g c = (
-  c.requires.ring,
   tt,
   λ _. start_counts c.args.intake c.args.maker c.requires.fresh c.requires.earlier,
   λ _ _.

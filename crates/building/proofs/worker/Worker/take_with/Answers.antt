@@ -10,7 +10,7 @@ use Rattle.building.proofs.worker.Worker.take_with.Goals as goal
 
 pub take-requires-clause-ready : goal.take-requires-clause-ready
 take-requires-clause-ready g c =
-    let holds = c.self.invariant.3 c.in_default.is c.if-self.false in
+    let holds = c.self.invariant.2 c.in_default.is c.if-self.false in
     subst (λ (spools : List _). AreReady (map g.S.Spool.runs spools) (map g.S.Spool.open_run spools)) (sym c.deref_mut.ensures.value)
     (spools_ready g.S.Spool.runs g.S.Spool.open_run g.S.Spool.stake c.self.inside.spools.items holds.ready)
 
@@ -32,12 +32,11 @@ invariant_of-self-in-Ok g c =
     subst (λ (old : List _). TurnHolds c.args.turn at.maker.specs (turn_images c.args.turn at.maker.schema at.intake) (record { runs = map g.S.Spool.runs old; begun = at.maker.begun })
     (record { runs = map g.S.Spool.runs spools; begun = maker.begun })) lent it.holds in
     rw back (
-      c.self.invariant.0 ∙ ap Some (sym (c.take.ensures.ring)),
-      c.self.invariant.1,
-      (λ sound. turn_counts c.args.turn at.maker maker at.intake after c.take.ensures.schema it.taken (c.self.invariant.2 sound)),
+      c.self.invariant.0,
+      (λ sound. turn_counts c.args.turn at.maker maker at.intake after c.take.ensures.schema it.taken (c.self.invariant.1 sound)),
       (λ sound kept.
-          turn_held g.S.Spool.runs g.S.Spool.open_run g.S.Spool.stake c.args.turn at.intake after at.maker maker at.spools.items spools (c.self.invariant.2 sound)
-          (c.self.invariant.3 sound kept) it.readable c.take.ensures.specs c.take.ensures.schema c.laws.ensures.specs many it.ready sorted it.taken holds
+          turn_held g.S.Spool.runs g.S.Spool.open_run g.S.Spool.stake c.args.turn at.intake after at.maker maker at.spools.items spools (c.self.invariant.1 sound)
+          (c.self.invariant.2 sound kept) it.readable c.take.ensures.specs c.take.ensures.schema c.laws.ensures.specs many it.ready sorted it.taken holds
           c.laws.ensures.short it.closed),
       (λ handed. absurd (false≢true (sym c.if-self.false ∙ handed))),
     )
@@ -77,7 +76,7 @@ returns-in-Err-clause-stopped g c =
     let long : length spools ≡ at.spools.len = c.take.auto.spools ∙ c.deref_mut.ensures.len in
     let back = lent_back at.spools.len at.spools.items spools long in
     let stakes : map spool.stake spools ≡ map spool.stake at.spools.items = c.take.ensures.stakes ∙ ap (map spool.stake) c.deref_mut.ensures.value in
-    let holds = c.self.invariant.3 c.in_default.is c.if-self.false in
+    let holds = c.self.invariant.2 c.in_default.is c.if-self.false in
     let many : length spools ≡ length at.spools.items = c.take.auto.spools ∙ ap length c.deref_mut.ensures.value in
     let new = worker_with spool.runs spool.open_run spool.stake at.number after maker (take at.spools.len (spools ++ drop (length spools) at.spools.items)) at.handed
     (Some c.in-Err.fault) in

@@ -1,5 +1,5 @@
 use Rattle.std.proofs.Common.{subst, sym}
-use Rattle.replay.specs.Leasing.{AreOf}
+use Rattle.leased_core.specs.Leasing.{AreOf}
 use Rattle.growth_tests.proofs.stand.Stand.step.Goals as goal
 
 pub invariant_of-self : goal.invariant_of-self

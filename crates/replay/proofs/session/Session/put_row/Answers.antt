@@ -6,12 +6,12 @@ use Rattle.replay.proofs.session.Session.put_row.Goals as goal
 
 pub returns-in-Ok : goal.returns-in-Ok
 returns-in-Ok g c =
-    let core = c.args.bench.now in
-    let left = c.put.new.bench in
+    let core = c.args.leased.now in
+    let left = c.put.new.leased in
     let puts = rw c.in_ok-row.ensures.ok at c.in-Ok.ensures.ok in
     record {
       core = subst (λ (cause : Option Fault). Unless cause (AddsRow c.args.cells.items) core (Row c.in-Ok.rid) left) (sym c.in_ok-row.ensures.accepted)
-          (inl (c.in_ok-txn.txn, c.begin.new.bench, c.in-Ok.rid, refl, c.in_ok-txn.ensures.ok, puts));
+          (inl (c.in_ok-txn.txn, c.begin.new.leased, c.in-Ok.rid, refl, c.in_ok-txn.ensures.ok, puts));
       labels = refl;
       choice = refl;
       status = refl;
@@ -19,13 +19,13 @@ returns-in-Ok g c =
 
 pub returns-in-Err : goal.returns-in-Err
 returns-in-Err g c =
-    let core = c.args.bench.now in
-    let left = c.take_back.new.bench in
+    let core = c.args.leased.now in
+    let left = c.take_back.new.leased in
     let given = Refused c.in-Err.fault in
     let failed = rw c.in_ok-row.ensures.ok at c.in-Err.ensures.refused in
     record {
       core = subst (λ (cause : Option Fault). Unless cause (AddsRow c.args.cells.items) core given left) (sym c.in_ok-row.ensures.accepted)
-          (inr (inl (c.in_ok-txn.txn, c.begin.new.bench, c.in-Err.fault, c.put.new.bench, c.take_back.ensures.0, refl, c.in_ok-txn.ensures.ok, failed, c.take_back.ensures.1)));
+          (inr (inl (c.in_ok-txn.txn, c.begin.new.leased, c.in-Err.fault, c.put.new.leased, c.take_back.ensures.0, refl, c.in_ok-txn.ensures.ok, failed, c.take_back.ensures.1)));
       labels = refl;
       choice = refl;
       status = refl;

@@ -10,7 +10,7 @@ use Rattle.replay.proofs.session.Session.rest.Goals as goal
 
 pub returns : goal.returns
 returns g c =
-    let core = c.args.bench.now in
+    let core = c.args.leased.now in
     let asked = key_spec_of core.live.heap.schema c.args.spec in
     let made = c.in_ok-spec.spec in
     let named = c.in_ok-spec.ensures.made ∙ ap (λ (s : CoreState). key_spec_of s.live.heap.schema c.args.spec) c.core.ensures in

@@ -27,10 +27,10 @@ plan_of g c = record { specs = c.in_ok-key_specs.field-0; workers = c.args.start
 -- nothing is against the command before its plan is made
 by_plan :
     (g : given.Over) (c : After-start g) (answer : Answer)
-    → StartsByPlan c.args.start.quota (plan_of g c) c.args.bench.now answer c.start.new.self
-    → Unless (planning_refusal c.args.bench.now c.args.start) (StartsBuild c.args.start) c.args.bench.now answer c.start.new.self
+    → StartsByPlan c.args.start.quota (plan_of g c) c.args.leased.now answer c.start.new.self
+    → Unless (planning_refusal c.args.leased.now c.args.start) (StartsBuild c.args.start) c.args.leased.now answer c.start.new.self
 by_plan g c answer starts =
-    let core = c.args.bench.now in
+    let core = c.args.leased.now in
     let start = c.args.start in
     let no_build : is_some core.live.build ≡ false =
     sym (ap (λ (s : CoreState). is_some s.live.build) c.core.ensures) ∙ sym c.is_building.ensures ∙ c.if-is_building.false in

@@ -10,7 +10,7 @@ use Rattle.replay.proofs.session.Session.switch.Goals as goal
 
 pub returns : goal.returns
 returns g c =
-    let build = c.args.bench.now.live.build in
+    let build = c.args.leased.now.live.build in
     let specs = c.in_ok-specs.specs.items in
     let number = c.in_ok-number.number in
     let verdicts = c.in_ok-number.verdicts in

@@ -1,0 +1,2 @@
+mod BuildsKept
+mod OnePool

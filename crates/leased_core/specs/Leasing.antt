@@ -1,0 +1,111 @@
+-- The pages that the spools of a build lease, and how a table stands before a build and behind it.
+use Rattle.std.specs.Prelude.{◌≡◌, ◌⊎◌, ℕ, ◌*◌, ◌≤◌, true, is_some, List, [], length, replicate, Option, Some, None}
+use Rattle.std.specs.List.{All, sum_by}
+use Rattle.spool_ledger.specs.Accounts.{Stake, stake_of}
+use Rattle.spool_ledger.specs.Pools.{PoolValue}
+use Rattle.run_spool.specs.PagedSpools.{runs_of}
+use Rattle.run_spool.specs.Runs.{pairs_of}
+use Rattle.run_spool.specs.Spools.{stakes_in}
+use Rattle.spool_kinds.specs.Kinds.{inside}
+use Rattle.spool_kinds.specs.declared.either.SpoolOfKind.{SpoolOfKind}
+use Rattle.keybytes.specs.declared.fault.Fault.{Fault}
+use Rattle.keybytes.specs.declared.fault.Fault.TheVariants.{Memory}
+use Rattle.build_events.specs.CoreState.{CoreState, SpoolsState, idle, opening, with_heap}
+use Rattle.build_work.specs.Holding.{spools_in}
+use Rattle.build_events.specs.Steps.{Step}
+use Rattle.build_events.specs.declared.event.Event.{Event}
+use Rattle.build_events.specs.declared.event.Event.TheVariants.{Begin, Insert, Update, Delete, Undo, Commit, Start, Scan, Digest, Seal, Load, Feed, Apply, Fence, Switch, Abandon}
+use Rattle.build_events.specs.declared.plan.Plan.{Plan}
+use Rattle.build_events.specs.declared.reply.Reply.{Reply}
+use Rattle.build_events.specs.declared.reply.Reply.TheVariants.{Refused}
+
+-- the pool of a build's pages, and for how many of its accounts there is room
+pub record LeasesValue : Type 0 where
+  pub pool : PoolValue
+  pub room : ℕ
+
+-- pool and quota of the account behind a spool
+abbrev pub stake_in : SpoolOfKind → Option Stake
+stake_in spool = Some (stake_of (inside spool).account)
+
+-- spools of either kind as the core sees them
+abbrev pub spools_of_kinds : List SpoolOfKind → SpoolsState
+spools_of_kinds spools = spools_in (λ spool. runs_of (inside spool)) (λ spool. pairs_of (inside spool).open_run) stake_in spools
+
+-- there is none
+abbrev pub no_spools : SpoolsState
+no_spools = record { stakes = []; left = [] }
+
+-- so many empty spools, each with a quota of that many pages of its own
+abbrev pub new_spools : ℕ → ℕ → SpoolsState
+new_spools count quota = record { stakes = replicate count (Some (record { pool = 0; quota = quota })); left = replicate count true }
+
+-- how many pages a stake has
+abbrev pub pages_of : Stake → ℕ
+pages_of stake = stake.quota
+
+-- the accounts behind spools are of that pool, have together the pages that it has split off, and find room beside it
+pub record AreOf (leases : LeasesValue) (stakes : List (Option Stake)) : Type 0 where
+  pub own : All (λ stake. stake.pool ≡ leases.pool.number) (stakes_in stakes)
+  pub out : sum_by pages_of (stakes_in stakes) ≡ leases.pool.out
+  pub room : length stakes ≤ leases.room
+
+-- no build runs beside the table, and there are no spools
+pub record IsAtRest (s : CoreState) : Type 0 where
+  pub build : s.live.build ≡ None
+  pub work : s.work ≡ idle
+  pub spools : s.spools ≡ no_spools
+
+-- a build runs, and the accounts behind its spools are of that pool
+pub record IsLeasing (leases : LeasesValue) (s : CoreState) : Type 0 where
+  pub build : is_some s.live.build ≡ true
+  pub stakes : AreOf leases s.spools.stakes
+
+-- pages are leased exactly while a build runs
+abbrev pub LeasesFollow : Option LeasesValue → CoreState → Type 0
+LeasesFollow None s = IsAtRest s
+LeasesFollow (Some leases) s = IsLeasing leases s
+
+-- the pages of these stakes are leased from that pool, if there is one
+abbrev pub AreLeased : Option LeasesValue → List (Option Stake) → Type 0
+AreLeased None stakes = Unit {0}
+AreLeased (Some leases) stakes = AreOf leases stakes
+
+-- the table with new spools beside it, one for each worker and index of the plan, each with a quota of that many pages
+abbrev pub with_new_spools : ℕ → Plan → CoreState → CoreState
+with_new_spools quota plan s = opening s.live (new_spools (plan.workers * length plan.specs.items) quota)
+
+-- the start of a build over new spools is replied so
+abbrev pub StartsOver : ℕ → Plan → CoreState → Reply → CoreState → Type 0
+StartsOver quota plan old told new = Step (with_new_spools quota plan old) (Start plan) told new
+
+-- a build does not start over new spools, or there is no memory for these
+abbrev pub FailsToStart : ℕ → Plan → CoreState → Fault → Type 0
+FailsToStart quota plan s fault = (fault ≡ Memory) ⊎ ((left : CoreState) × StartsOver quota plan s (Refused fault) left)
+
+-- an event is replied so and ends the build, and its spools are given up
+abbrev pub EndsBuild : Event → Reply → CoreState → CoreState → Type 0
+EndsBuild asked told old new = (left : CoreState) × Step old asked told left × (new ≡ opening left.live no_spools)
+
+-- nothing has changed but how often rows were given out
+abbrev pub OnlyVisits : CoreState → CoreState → Type 0
+OnlyVisits old new = new ≡ with_heap old (record old.live.heap { visits = new.live.heap.visits })
+
+-- the event neither starts a build nor ends one
+abbrev pub KeepsBuild : Event → Type 0
+KeepsBuild Begin = Unit {0}
+KeepsBuild (Insert txn row) = Unit {0}
+KeepsBuild (Update txn rid row) = Unit {0}
+KeepsBuild (Delete txn rid) = Unit {0}
+KeepsBuild (Undo txn) = Unit {0}
+KeepsBuild (Commit txn) = Unit {0}
+KeepsBuild (Start plan) = ⊥
+KeepsBuild (Scan range worker) = Unit {0}
+KeepsBuild (Digest worker) = Unit {0}
+KeepsBuild (Seal worker) = Unit {0}
+KeepsBuild (Load index) = Unit {0}
+KeepsBuild (Feed index most) = Unit {0}
+KeepsBuild (Apply index most) = Unit {0}
+KeepsBuild Fence = Unit {0}
+KeepsBuild Switch = ⊥
+KeepsBuild Abandon = ⊥
