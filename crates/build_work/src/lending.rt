@@ -118,7 +118,8 @@ impl<S: Spool, T: Table> WithoutWorkers<S, T> {
     }
 
     /// Gives the work of the build up, with the workers that came back, whatever threads did with them: answered with the intakes that are
-    /// left, theirs first, with the ends of the side-files' rings, and with the spools that came back, ended. Takes no memory.
+    /// left, theirs first, with the ends of the side-files' rings, and with the spools that came back, ended. Workers of another table would be
+    /// ended as well: the intakes tell whose rings came back. Takes no memory.
     pub fn give_up(self, workers: Vec<Worker<S>>) -> (Vec<Intake>, Vec<Consumer<Entry>>, Vec<S>)
         requires { AreNoMore self workers.items }
         ensures intakes { result.0.items ≡ intakes workers.items self.idle }

@@ -75,7 +75,8 @@ impl<S: Spool> Model for Worker<S> {
 }
 
 impl<S: Spool> Worker<S> {
-    /// A worker that has taken nothing of its build. It gets a spool for each specification of its maker, all empty.
+    /// A worker that has taken nothing of its build, which gives it the ring of its number. It gets a spool for each specification of its maker, all
+    /// empty.
     pub fn new(
         alloc: Global,
         number: usize,
@@ -120,7 +121,7 @@ impl<S: Spool> Worker<S> {
         self.maker.laws();
     }
 
-    /// Which of the table's rings it takes from: its place among the workers of its build.
+    /// Its place among the workers of its build, whose ring its build expects it to have.
     pub fn number(&self) -> usize
         ensures { result ≡ self.now.number }
     {

@@ -8,7 +8,7 @@ use std::alloc::Global;
 /// Puts the pairs in, in whatever order they come, and answers the RIDs of a key, the least first.
 fn rids_of(tree: &mut Tree, pairs: Vec<Pair>, key: &Key) -> Result<Vec<Rid>, Fault> {
     for pair in pairs {
-        // (what takes memory comes first, and changes nothing)
+        // What takes memory comes first, and changes nothing.
         tree.make_room(&pair.key)?;
         tree.insert(pair.key, pair.rid);
     }

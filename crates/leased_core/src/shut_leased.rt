@@ -10,7 +10,8 @@ use std::marker::Model;
 /// A [`LeasedCore`] whose name was taken off: what a program keeps that can't keep a type, as one in C. It tells which rings a name has to be of for
 /// [`ShutLeased::open`].
 ///
-/// To let it go loses the pages of a build that runs, and nothing else: whoever wants them back opens it and calls [`LeasedCore::close`].
+/// To let it go lets the table go, and with it the pool and the spools of a build that runs, which nobody ends. Whoever wants the pages
+/// counted opens it, and calls [`LeasedCore::close`].
 pub struct ShutLeased {
     alloc: Global,
     core: Shut<SpoolOfKind>,

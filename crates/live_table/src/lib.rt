@@ -2,8 +2,9 @@
 //!
 //! [`Parts`] are a heap with the rings for all its builds, and [`Parts::open`] gives them the name of a [`Table`]: [`Live`] is then
 //! the table, and [`Ends`] are the ends of the rings that stand beside it, of which a [`Building`] is made. Each step of a table
-//! is one call of `Live`; [`ShutLive`] is one whose name was taken off. How table and `Building` go together is told by `StandsBeside` of build_halves' `specs/Builds.antt`,
-//! and what a switch looks at by its `specs/Switching.antt`. [`at_rest`] makes the pairs of a table that nobody writes.
+//! is one call of `Live`; [`ShutLive`] is one whose name was taken off. How table and `Building` go together is told by `StandsBeside` of
+//! build_halves' `specs/Builds.antt`, and what a switch looks at by its `specs/Switching.antt`. [`at_rest`] makes the pairs of a table that
+//! nobody writes.
 #![tactic(auto)]
 
 mod changes;

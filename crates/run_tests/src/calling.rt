@@ -20,10 +20,17 @@ fn least<S: Spool>(alloc: Global, heap: &mut Heap, mut spools: Vec<S>) -> Result
     match merge(alloc, spools) {
         Ok(mut merged) => {
             let first = merged.next();
-            let _spools = merged.into_spools();
+            end_all(merged.into_spools());
             Ok(first?.map(|pair| pair.rid))
         }
         Err((_, fault)) => Err(fault),
+    }
+}
+
+/// Gives each page back that a spool still leases.
+fn end_all<S: Spool>(mut spools: Vec<S>) {
+    for spool in spools.iter_mut() {
+        spool.end();
     }
 }
 
