@@ -46,11 +46,10 @@ fn abandoned<T: Table>(table: ShutLeased) -> (ShutLeased, Result<(), Fault>)
         (λ fault. Step table.core Event.Abandon (Reply.Refused fault) result.0.core) }
 {
     let mut named = table.open::<T>();
-    let told = match named.abandon() {
-        Ok(_missing) => Ok(()),
-        Err(fault) => Err(fault),
-    };
-    (named.shut(), told)
+    match named.abandon() {
+        Ok(_missing) => (named.shut(), Ok(())),
+        Err(fault) => (named.shut(), Err(fault)),
+    }
 }
 
 /// The table under a name, for a switch.
@@ -62,9 +61,8 @@ fn switched<T: Table>(table: ShutLeased) -> (ShutLeased, Result<(usize, Verdicts
         (λ fault. Step table.core Event.Switch (Reply.Refused fault) result.0.core) }
 {
     let mut named = table.open::<T>();
-    let told = match named.switch() {
-        Ok((number, verdicts, _missing)) => Ok((number, verdicts)),
-        Err(fault) => Err(fault),
-    };
-    (named.shut(), told)
+    match named.switch() {
+        Ok((number, verdicts, _missing)) => (named.shut(), Ok((number, verdicts))),
+        Err(fault) => (named.shut(), Err(fault)),
+    }
 }
