@@ -1,0 +1,9 @@
+use Rattle.std.proofs.Common.{subst, sym}
+use Rattle.build_events.specs.CoreState.{CoreState}
+use Rattle.build_events.specs.Steps.{Step}
+use Rattle.embedding.proofs.kept.stepped.Goals as goal
+
+pub returns : goal.returns
+returns g c =
+    subst (λ (after : CoreState). Step c.args.table.core c.args.event c.step-reply.result after) (sym c.shut.ensures.core)
+    (subst (λ (before : CoreState). Step before c.args.event c.step-reply.result c.step-reply.new.self) c.open-named.ensures c.step-reply.ensures.step)
