@@ -1,7 +1,5 @@
 -- A table that is kept without a name, and what a call makes of it.
-use Rattle.std.specs.Prelude.{◌≡◌, ◌⊎◌, ℕ, [], Option, Some, None}
-use Rattle.keybytes.specs.declared.fault.Fault.{Fault}
-use Rattle.keybytes.specs.declared.fault.Fault.TheVariants.{BadCount, BuildRunning}
+use Rattle.std.specs.Prelude.{◌≡◌, [], Option, Some, None}
 use Rattle.heap_table.specs.HeapState.{HeapState}
 use Rattle.build_events.specs.CoreState.{CoreState, opening}
 use Rattle.build_halves.specs.Builds.{ShutValue}

@@ -10,9 +10,9 @@ use leased_core::{LeasedCore, ShutLeased};
 use std::alloc::Global;
 use std::marker::{Brand, Model};
 
-/// A table with its builds, without a name. There is none while a call works on it, and never between two calls.
+/// A table with its builds, without a name. It is there from its making on, but for the time that a call works on it.
 ///
-/// To let it go loses the pages of a build that runs: [`Kept::close`] gives them back.
+/// To let it go lets the table go, and with it the pool and the spools of a build that runs: [`Kept::abandon`] ends these.
 pub struct Kept {
     pub(crate) table: Option<ShutLeased>,
 }
