@@ -181,6 +181,14 @@ impl Tree {
         self.from(&least)
     }
 
+    /// The pairs in order, from the first that isn't before this one. So whoever reads a part of them goes on behind its last pair, whatever
+    /// was put in and taken out meanwhile. Takes no memory.
+    pub fn iter_from(&self, key: &Key, rid: Rid) -> Pairs<'_>
+        ensures { pairs_left result ≡ from (record { key = key.now; rid = rid }) self.now.pairs }
+    {
+        Pairs::new(self.root.as_ref(), key, rid)
+    }
+
     /// The pairs in order, from the least that the key may have.
     fn from(&self, key: &Key) -> Pairs<'_>
         ensures pairs { pairs_left result ≡ from (record { key = key.now; rid = record { page = 0; slot = 0 } }) self.now.pairs }
