@@ -149,8 +149,8 @@ impl<T: Table> Live<T> {
         &self.heap
     }
 
-    /// The build that runs.
-    pub(crate) fn build(&self) -> Option<&TableScan>
+    /// What the table knows of the build that runs: its ranges, and how far each was scanned.
+    pub fn build(&self) -> Option<&TableScan>
         ensures build { MatchOption result (self.now.state.build ≡ None) (λ build. self.now.state.build ≡ Some build.now) }
         ensures follows { BuildFollows self.now.state.heap.schema self.now.state.heap.log self.now.state.build }
         ensures fed { IfSome self.now.state.build (NoneAhead self.now.state.heap.log) }
