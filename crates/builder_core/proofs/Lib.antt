@@ -1,3 +1,4 @@
 pub mod Examples
+pub mod Looks
 pub mod PageCauses
 pub mod Told

@@ -14,6 +14,7 @@
 #![tactic(auto)]
 
 mod core_calls;
+mod core_looks;
 mod core_replies;
 mod core_steps;
 mod run;
