@@ -1,4 +1,4 @@
-use Rattle.embedding.proofs.kept.Kept.switch.Given as goal
+use Rattle.embedding.proofs.builds.Kept.switch.Given as goal
 
 -- the table is named by its own rings
 abbrev pub ghosts-switched : goal.ghosts-switched

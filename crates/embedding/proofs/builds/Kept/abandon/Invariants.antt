@@ -1,4 +1,4 @@
-use Rattle.embedding.proofs.kept.Kept.abandon.Given as goal
+use Rattle.embedding.proofs.builds.Kept.abandon.Given as goal
 
 -- the table is named by its own rings
 abbrev pub ghosts-abandoned : goal.ghosts-abandoned
