@@ -1,5 +1,5 @@
 //! A build that is done a piece at a time.
-ghost use Rattle.std.specs.Prelude.{◌≡◌, IfOk, IfErr, IsSomeAnd, OnOk, OnErr, MatchOption, MatchResult};
+ghost use Rattle.std.specs.Prelude.{◌≡◌, true, false, IfOk, IfErr, IsSomeAnd, OnOk, OnErr};
 ghost use Rattle.embedding.specs.Pieces.{FailsToAdvance, IsOfWork, StopsWork, WorksOn, WorksToTheEnd};
 
 use crate::Kept;
@@ -26,16 +26,14 @@ impl Kept {
         ensures refused { IfErr result (λ fault. FailsToAdvance self.old.core fault self.new.core) }
         ensures kept { OnErr result (self.new.decided ≡ self.old.decided) }
     {
-        let (table, told) = advanced::<Brand>(taken(&mut self.table), &mut self.pages, most);
+        let (table, ready) = advanced::<Brand>(
+            taken(&mut self.table),
+            &mut self.pages,
+            &mut self.decided,
+            most,
+        );
         self.table = Some(table);
-        match told {
-            Ok(Some(decided)) => {
-                self.decided = Some(decided);
-                Ok(true)
-            }
-            Ok(None) => Ok(false),
-            Err(fault) => Err(fault),
-        }
+        ready
     }
 }
 
@@ -43,33 +41,37 @@ impl Kept {
 fn advanced<T: Table>(
     table: ShutLeased,
     pages: &mut PageCount,
+    decided: &mut Option<Decided>,
     most: usize,
-) -> (ShutLeased, Result<Option<Decided>, Fault>)
+) -> (ShutLeased, Result<bool, Fault>)
     requires rings { table.pages ≡ T.pages }
     requires sides { table.sides ≡ T.sides }
-    ensures { MatchResult result.1
-        (λ told. MatchOption told (WorksOn table.core result.0.core) (λ decided. WorksToTheEnd table.core decided result.0.core))
-        (λ fault. FailsToAdvance table.core fault result.0.core) }
+    ensures ready { IfOk result.1 (λ ready. ready ≡ true → IsSomeAnd decided.new (λ told. WorksToTheEnd table.core told result.0.core)) }
+    ensures goes_on { IfOk result.1 (λ ready. ready ≡ false → WorksOn table.core result.0.core × (decided.new ≡ decided.old)) }
+    ensures refused { IfErr result.1 (λ fault. FailsToAdvance table.core fault result.0.core) }
+    ensures kept { OnErr result.1 (decided.new ≡ decided.old) }
 {
     let mut named = table.open::<T>();
-    let told = advance(&mut named, pages, most);
-    (named.shut(), told)
+    let ready = advance(&mut named, pages, decided, most);
+    (named.shut(), ready)
 }
 
-/// Does the next piece, and answers what was decided, if it was the switch.
+/// Does the next piece, and answers whether it was the switch.
 fn advance<T: Table>(
     leased: &mut LeasedCore<T>,
     pages: &mut PageCount,
+    decided: &mut Option<Decided>,
     most: usize,
-) -> Result<Option<Decided>, Fault>
-    ensures { MatchResult result
-        (λ told. MatchOption told (WorksOn leased.old leased.new) (λ decided. WorksToTheEnd leased.old decided leased.new))
-        (λ fault. FailsToAdvance leased.old fault leased.new) }
+) -> Result<bool, Fault>
+    ensures ready { IfOk result (λ ready. ready ≡ true → IsSomeAnd decided.new (λ told. WorksToTheEnd leased.old told leased.new)) }
+    ensures goes_on { IfOk result (λ ready. ready ≡ false → WorksOn leased.old leased.new × (decided.new ≡ decided.old)) }
+    ensures refused { IfErr result (λ fault. FailsToAdvance leased.old fault leased.new) }
+    ensures kept { OnErr result (decided.new ≡ decided.old) }
 {
     match work_on(leased, pages, most) {
-        Ok(true) => Ok(None),
-        Ok(false) => match decide(leased) {
-            Ok((_number, decided)) => Ok(Some(decided)),
+        Ok(true) => Ok(false),
+        Ok(false) => match decide(leased, decided) {
+            Ok(_number) => Ok(true),
             Err(fault) => Err(fault),
         },
         Err(fault) => Err(fault),
@@ -115,13 +117,39 @@ fn copy_page<T: Table>(
     ensures done { OnOk result (WorksOn leased.old leased.new) }
     ensures refused { IfErr result (λ fault. StopsWork leased.old fault leased.new) }
 {
+    scan(leased, pages, range, worker)?;
+    digest(leased, worker)
+}
+
+/// Copies the next page of the range for the worker, unless it has as many copies as it may.
+fn scan<T: Table>(
+    leased: &mut LeasedCore<T>,
+    pages: &mut PageCount,
+    range: usize,
+    worker: usize,
+) -> Result<(), Fault>
+    ensures done { OnOk result (WorksOn leased.old leased.new) }
+    ensures refused { IfErr result (λ fault. StopsWork leased.old fault leased.new) }
+{
     match work(leased, Event::Scan { range, worker }) {
-        Ok(_) => pages.note(),
-        Err(Fault::RingFull) => {}
-        Err(fault) => return Err(fault),
+        Ok(reply) => {
+            *pages = pages.after(&reply);
+            Ok(())
+        }
+        Err(Fault::RingFull) => Ok(()),
+        Err(fault) => Err(fault),
     }
-    work(leased, Event::Digest { worker })?;
-    Ok(())
+}
+
+/// Lets the worker make the pairs of one copy.
+fn digest<T: Table>(leased: &mut LeasedCore<T>, worker: usize) -> Result<(), Fault>
+    ensures done { OnOk result (WorksOn leased.old leased.new) }
+    ensures refused { IfErr result (λ fault. StopsWork leased.old fault leased.new) }
+{
+    match work(leased, Event::Digest { worker }) {
+        Ok(_reply) => Ok(()),
+        Err(fault) => Err(fault),
+    }
 }
 
 /// Puts the pairs of the index in order, or lets the lowest worker close its runs that has not.
@@ -129,12 +157,31 @@ fn put_in_order<T: Table>(leased: &mut LeasedCore<T>, index: usize) -> Result<()
     ensures done { OnOk result (WorksOn leased.old leased.new) }
     ensures refused { IfErr result (λ fault. StopsWork leased.old fault leased.new) }
 {
+    match load(leased, index)? {
+        Some(worker) => seal(leased, worker),
+        None => Ok(()),
+    }
+}
+
+/// Puts the pairs of the index in order, or answers the lowest worker that has not closed its runs.
+fn load<T: Table>(leased: &mut LeasedCore<T>, index: usize) -> Result<Option<usize>, Fault>
+    ensures done { OnOk result (WorksOn leased.old leased.new) }
+    ensures refused { IfErr result (λ fault. StopsWork leased.old fault leased.new) }
+{
     match work(leased, Event::Load { index }) {
-        Ok(_) => Ok(()),
-        Err(Fault::NotSealed(worker)) => {
-            work(leased, Event::Seal { worker })?;
-            Ok(())
-        }
+        Ok(_reply) => Ok(None),
+        Err(Fault::NotSealed(worker)) => Ok(Some(worker)),
+        Err(fault) => Err(fault),
+    }
+}
+
+/// Lets the worker close its runs.
+fn seal<T: Table>(leased: &mut LeasedCore<T>, worker: usize) -> Result<(), Fault>
+    ensures done { OnOk result (WorksOn leased.old leased.new) }
+    ensures refused { IfErr result (λ fault. StopsWork leased.old fault leased.new) }
+{
+    match work(leased, Event::Seal { worker }) {
+        Ok(_reply) => Ok(()),
         Err(fault) => Err(fault),
     }
 }
@@ -149,13 +196,25 @@ fn catch_up<T: Table>(
     ensures refused { IfErr result (λ fault. StopsWork leased.old fault leased.new) }
 {
     for index in 0..indexes {
-        let fed = work(leased, Event::Feed { index, most })?;
-        let applied = work(leased, Event::Apply { index, most })?;
-        if has_entries(&fed) || has_entries(&applied) {
+        if catch_up_one(leased, index, most)? {
             return Ok(true);
         }
     }
     Ok(false)
+}
+
+/// Applies the next entries of the index, at most so many, and answers whether it has some.
+fn catch_up_one<T: Table>(
+    leased: &mut LeasedCore<T>,
+    index: usize,
+    most: usize,
+) -> Result<bool, Fault>
+    ensures done { OnOk result (WorksOn leased.old leased.new) }
+    ensures refused { IfErr result (λ fault. StopsWork leased.old fault leased.new) }
+{
+    let fed = work(leased, Event::Feed { index, most })?;
+    let applied = work(leased, Event::Apply { index, most })?;
+    Ok(has_entries(&fed) || has_entries(&applied))
 }
 
 /// Whether the reply tells of entries.

@@ -1,5 +1,5 @@
 //! The start and the end of a build, on a table that is kept.
-ghost use Rattle.std.specs.Prelude.{◌≡◌, None, IfOk, IfErr, IfSome, IsSomeAnd, OnOk, OnErr, MatchResult};
+ghost use Rattle.std.specs.Prelude.{◌≡◌, None, IfOk, IfErr, IfSome, IsSomeAnd, OnOk, OnErr};
 ghost use Rattle.build_events.specs.Steps.{Step};
 ghost use Rattle.leased_core.specs.Leasing.{EndsBuild, StartsOver};
 ghost use Rattle.embedding.specs.Decisions.{Decides, FailsToDecide};
@@ -8,7 +8,6 @@ ghost use Rattle.embedding.specs.Starts.{RefusesStart, limits_refusal};
 use crate::Kept;
 use crate::decided::Decided;
 use crate::kept::taken;
-use crate::progress::PageCount;
 use builder_core::{Event, INDEXES_MAX, Plan, Reply, Table, WORKERS_MAX};
 use keybytes::{Fault, KeySpec, copied_specs};
 use leased_core::{LeasedCore, ShutLeased};
@@ -31,12 +30,7 @@ impl Kept {
     {
         let (table, started) = started::<Brand>(taken(&mut self.table), choice, quota, plan);
         self.table = Some(table);
-        if let Ok(pages) = &started {
-            self.pages = PageCount {
-                all: *pages,
-                copied: 0,
-            };
-        }
+        self.pages = self.pages.at_start(&started);
         started
     }
 
@@ -47,15 +41,9 @@ impl Kept {
         ensures refused { IfErr result (λ fault. FailsToDecide self.old.core fault self.new.core) }
         ensures kept { OnErr result (self.new.decided ≡ self.old.decided) }
     {
-        let (table, told) = switched::<Brand>(taken(&mut self.table));
+        let (table, number) = switched::<Brand>(taken(&mut self.table), &mut self.decided);
         self.table = Some(table);
-        match told {
-            Ok((number, decided)) => {
-                self.decided = Some(decided);
-                Ok(number)
-            }
-            Err(fault) => Err(fault),
-        }
+        number
     }
 
     /// Gives the build up, and its pages come back.
@@ -111,26 +99,34 @@ fn start_in_limits<T: Table>(
 }
 
 /// The table under a name, for a switch.
-fn switched<T: Table>(table: ShutLeased) -> (ShutLeased, Result<(usize, Decided), Fault>)
+fn switched<T: Table>(
+    table: ShutLeased,
+    decided: &mut Option<Decided>,
+) -> (ShutLeased, Result<usize, Fault>)
     requires pages { table.pages ≡ T.pages }
     requires sides { table.sides ≡ T.sides }
-    ensures { MatchResult result.1
-        (λ told. Decides table.core told.0 told.1 result.0.core)
-        (λ fault. FailsToDecide table.core fault result.0.core) }
+    ensures decided { IfOk result.1 (λ number. IsSomeAnd decided.new (λ told. Decides table.core number told result.0.core)) }
+    ensures refused { IfErr result.1 (λ fault. FailsToDecide table.core fault result.0.core) }
+    ensures kept { OnErr result.1 (decided.new ≡ decided.old) }
 {
     let mut named = table.open::<T>();
-    let told = decide(&mut named);
-    (named.shut(), told)
+    let number = decide(&mut named, decided);
+    (named.shut(), number)
 }
 
-/// Tries the switch. What makes the keys of the build's indexes is copied before.
-pub(crate) fn decide<T: Table>(leased: &mut LeasedCore<T>) -> Result<(usize, Decided), Fault>
-    ensures decided { IfOk result (λ told. Decides leased.old told.0 told.1 leased.new) }
+/// Tries the switch, and notes what it decides. What makes the keys of the build's indexes is copied before.
+pub(crate) fn decide<T: Table>(
+    leased: &mut LeasedCore<T>,
+    decided: &mut Option<Decided>,
+) -> Result<usize, Fault>
+    ensures decided { IfOk result (λ number. IsSomeAnd decided.new (λ told. Decides leased.old number told leased.new)) }
     ensures refused { IfErr result (λ fault. FailsToDecide leased.old fault leased.new) }
+    ensures kept { OnErr result (decided.new ≡ decided.old) }
 {
     let specs = build_specs(leased)?;
     let (number, verdicts, _missing) = leased.switch()?;
-    Ok((number, Decided::new(specs, verdicts)))
+    *decided = Some(Decided::new(specs, verdicts));
+    Ok(number)
 }
 
 /// Copies of what makes the keys of the indexes that are being built.
@@ -149,9 +145,8 @@ fn build_specs<T: Table>(leased: &LeasedCore<T>) -> Result<Vec<KeySpec>, Fault>
 fn abandoned<T: Table>(table: ShutLeased) -> (ShutLeased, Result<(), Fault>)
     requires pages { table.pages ≡ T.pages }
     requires sides { table.sides ≡ T.sides }
-    ensures { MatchResult result.1
-        (λ _. EndsBuild Event.Abandon Reply.Abandoned table.core result.0.core)
-        (λ fault. Step table.core Event.Abandon (Reply.Refused fault) result.0.core) }
+    ensures abandoned { OnOk result.1 (EndsBuild Event.Abandon Reply.Abandoned table.core result.0.core) }
+    ensures refused { IfErr result.1 (λ fault. Step table.core Event.Abandon (Reply.Refused fault) result.0.core) }
 {
     let mut named = table.open::<T>();
     match named.abandon() {

@@ -83,9 +83,7 @@ impl Kept {
     {
         let (table, reply) = stepped::<Brand>(taken(&mut self.table), event);
         self.table = Some(table);
-        if let Reply::Scanned { .. } = &reply {
-            self.pages.note();
-        }
+        self.pages = self.pages.after(&reply);
         reply
     }
 }

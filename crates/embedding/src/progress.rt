@@ -4,7 +4,8 @@ ghost use Rattle.embedding.specs.Progresses.{all_unfed, index_count, unfed_at};
 
 use crate::Kept;
 use crate::kept::taken;
-use builder_core::{Core, Table};
+use builder_core::{Core, Reply, Table};
+use keybytes::Fault;
 use leased_core::ShutLeased;
 use spool_kinds::SpoolOfKind;
 use std::marker::Brand;
@@ -32,9 +33,26 @@ pub(crate) struct PageCount {
 }
 
 impl PageCount {
-    /// One more was copied.
-    pub(crate) fn note(&mut self) {
-        self.copied = self.copied.saturating_add(1);
+    /// The same once that was replied.
+    pub(crate) fn after(self, reply: &Reply) -> PageCount {
+        match reply {
+            Reply::Scanned { .. } => PageCount {
+                all: self.all,
+                copied: self.copied.saturating_add(1),
+            },
+            _ => self,
+        }
+    }
+
+    /// The same once a start was answered so.
+    pub(crate) fn at_start(self, started: &Result<u32, Fault>) -> PageCount {
+        match started {
+            Ok(pages) => PageCount {
+                all: *pages,
+                copied: 0,
+            },
+            Err(_) => self,
+        }
     }
 }
 
