@@ -1,23 +1,27 @@
--- A table that is kept without a name, and what a call makes of it.
-use Rattle.std.specs.Prelude.{◌≡◌, [], Option, Some, None}
-use Rattle.heap_table.specs.HeapState.{HeapState}
+-- A table that is kept without a name, with what the newest switch decided.
+use Rattle.std.specs.Prelude.{List, [], Option, Some, None}
+use Rattle.keybytes.specs.Keys.{KeySpecValue}
+use Rattle.heap_log.specs.declared.outcome.Outcome.{Outcome}
+use Rattle.heap_table.specs.HeapState.{HeapState, empty_heap}
 use Rattle.build_events.specs.CoreState.{CoreState, opening}
 use Rattle.build_halves.specs.Builds.{ShutValue}
 use Rattle.leased_core.specs.Leasing.{no_spools}
 
--- there is a table before and after, and this holds of both
-abbrev pub Becomes : (CoreState → CoreState → Type 0) → Option ShutValue → Option ShutValue → Type 0
-Becomes does old new = (before : ShutValue) × (after : ShutValue) × (old ≡ Some before) × (new ≡ Some after) × does before.core after.core
+-- what a switch decided: what makes the keys of each index of its build, and what became of it
+pub record DecidedValue : Type 0 where
+  pub specs : List KeySpecValue
+  pub verdicts : List Outcome
 
--- there is no table, before or after
-pub record IsNowhere (old new : Option ShutValue) : Type 0 where
-  pub before : old ≡ None
-  pub after : new ≡ None
+-- a table with its builds, and what the newest switch decided, if one did
+pub record KeptValue : Type 0 where
+  pub core : CoreState
+  pub decided : Option DecidedValue
 
 -- a table over these rows, with no index and no build, and no spools beside it
 abbrev pub new_table : HeapState → CoreState
 new_table heap = opening (record { heap = heap; ready = []; builds = 0; build = None }) no_spools
 
--- there is a table, and it is that one
-abbrev pub IsTable : CoreState → Option ShutValue → Type 0
-IsTable core kept = (value : ShutValue) × (kept ≡ Some value) × (value.core ≡ core)
+-- the table in its place; one without columns where there is none, as is so for the time of a call alone
+abbrev pub table_in : Option ShutValue → CoreState
+table_in None = new_table (empty_heap [] 0 0)
+table_in (Some table) = table.core

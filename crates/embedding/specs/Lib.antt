@@ -1,1 +1,6 @@
+pub mod Decisions
 pub mod KeptTables
+pub mod Lookups
+pub mod Pieces
+pub mod Progresses
+pub mod Starts

@@ -1,39 +1,143 @@
 //! The start and the end of a build, on a table that is kept.
-ghost use Rattle.std.specs.Prelude.{◌≡◌, None, IfOk, IfErr, OnErr, MatchOption, MatchResult};
+ghost use Rattle.std.specs.Prelude.{◌≡◌, None, IfOk, IfErr, IfSome, IsSomeAnd, OnOk, OnErr};
 ghost use Rattle.build_events.specs.Steps.{Step};
-ghost use Rattle.leased_core.specs.Leasing.{EndsBuild};
-ghost use Rattle.embedding.specs.KeptTables.{Becomes, IsNowhere};
+ghost use Rattle.leased_core.specs.Leasing.{EndsBuild, StartsOver};
+ghost use Rattle.embedding.specs.Decisions.{Decides, FailsToDecide};
+ghost use Rattle.embedding.specs.Starts.{RefusesStart, limits_refusal};
 
 use crate::Kept;
-use builder_core::{Event, Reply, Table};
-use heap_log::Verdicts;
-use keybytes::Fault;
-use leased_core::ShutLeased;
+use crate::decided::Decided;
+use crate::kept::taken;
+use builder_core::{Event, INDEXES_MAX, Plan, Reply, Table, WORKERS_MAX};
+use keybytes::{Fault, KeySpec, copied_specs};
+use leased_core::{LeasedCore, ShutLeased};
+use spool_choice::SpoolChoice;
 use std::marker::Brand;
 
+/// How many pages a spool may lease.
+const QUOTA_MAX: usize = 1_024;
+
 impl Kept {
-    /// Gives the build up, and its pages come back.
-    pub fn abandon(&mut self) -> Option<Result<(), Fault>>
-        ensures { MatchOption result (IsNowhere self.old self.new) (λ told. MatchResult told
-            (λ _. Becomes (λ old new. EndsBuild Event.Abandon Reply.Abandoned old new) self.old self.new)
-            (λ fault. Becomes (λ old new. Step old Event.Abandon (Reply.Refused fault) new) self.old self.new)) }
+    /// Starts a build over new spools of the kinds that are chosen, each with its quota of pages, and answers how many pages of the
+    /// table it reads. [`Fault::BuildRunning`]; [`Fault::BadCount`] for more than 16 workers, 8 indexes or 1,024 pages a spool; then why the plan
+    /// starts none. Where that is refused the spools are given up again.
+    pub fn start(&mut self, choice: SpoolChoice, quota: usize, plan: Plan) -> Result<u32, Fault>
+        ensures started { IfOk result (λ pages. StartsOver quota plan self.old.core (Reply.Started pages) self.new.core) }
+        ensures accepted { OnOk result (limits_refusal quota plan self.old.core ≡ None) }
+        ensures refused { IfErr result (RefusesStart quota plan self.old.core) }
+        ensures unchanged { OnErr result (self.new ≡ self.old) }
+        ensures decided { self.new.decided ≡ self.old.decided }
     {
-        let table = self.table.take()?;
-        let (table, told) = abandoned::<Brand>(table);
+        let (table, started) = started::<Brand>(taken(&mut self.table), choice, quota, plan);
         self.table = Some(table);
-        Some(told)
+        self.pages = self.pages.at_start(&started);
+        started
     }
 
-    /// Tries to bring the build's indexes into use. Once that is decided its pages come back.
-    pub fn switch(&mut self) -> Option<Result<(usize, Verdicts), Fault>>
-        ensures { MatchOption result (IsNowhere self.old self.new) (λ told. MatchResult told
-            (λ told. Becomes (λ old new. EndsBuild Event.Switch (Reply.Switched told.0 told.1) old new) self.old self.new)
-            (λ fault. Becomes (λ old new. Step old Event.Switch (Reply.Refused fault) new) self.old self.new)) }
+    /// Tries to bring the build's indexes into use, and answers with the number of the log record. Once that is decided the spools are given up, and
+    /// what was decided is kept. [`Fault::Memory`] is also the answer where there is none to keep it.
+    pub fn switch(&mut self) -> Result<usize, Fault>
+        ensures decided { IfOk result (λ number. IsSomeAnd self.new.decided (λ decided. Decides self.old.core number decided self.new.core)) }
+        ensures refused { IfErr result (λ fault. FailsToDecide self.old.core fault self.new.core) }
+        ensures kept { OnErr result (self.new.decided ≡ self.old.decided) }
     {
-        let table = self.table.take()?;
-        let (table, told) = switched::<Brand>(table);
+        let (table, number) = switched::<Brand>(taken(&mut self.table), &mut self.decided);
         self.table = Some(table);
-        Some(told)
+        number
+    }
+
+    /// Gives the build up, and its pages come back.
+    pub fn abandon(&mut self) -> Result<(), Fault>
+        ensures abandoned { OnOk result (EndsBuild Event.Abandon Reply.Abandoned self.old.core self.new.core) }
+        ensures refused { IfErr result (λ fault. Step self.old.core Event.Abandon (Reply.Refused fault) self.new.core) }
+        ensures decided { self.new.decided ≡ self.old.decided }
+    {
+        let (table, abandoned) = abandoned::<Brand>(taken(&mut self.table));
+        self.table = Some(table);
+        abandoned
+    }
+}
+
+/// The table under a name, for a start.
+fn started<T: Table>(
+    table: ShutLeased,
+    choice: SpoolChoice,
+    quota: usize,
+    plan: Plan,
+) -> (ShutLeased, Result<u32, Fault>)
+    requires pages { table.pages ≡ T.pages }
+    requires sides { table.sides ≡ T.sides }
+    ensures started { IfOk result.1 (λ pages. StartsOver quota plan table.core (Reply.Started pages) result.0.core) }
+    ensures accepted { OnOk result.1 (limits_refusal quota plan table.core ≡ None) }
+    ensures refused { IfErr result.1 (RefusesStart quota plan table.core) }
+    ensures unchanged { OnErr result.1 (result.0.core ≡ table.core) }
+{
+    let mut named = table.open::<T>();
+    let started = start_in_limits(&mut named, choice, quota, plan);
+    (named.shut(), started)
+}
+
+/// Starts a build, unless one runs or there would be too many spools, or pages for one of them.
+fn start_in_limits<T: Table>(
+    leased: &mut LeasedCore<T>,
+    choice: SpoolChoice,
+    quota: usize,
+    plan: Plan,
+) -> Result<u32, Fault>
+    ensures started { IfOk result (λ pages. StartsOver quota plan leased.old (Reply.Started pages) leased.new) }
+    ensures accepted { OnOk result (limits_refusal quota plan leased.old ≡ None) }
+    ensures refused { IfErr result (RefusesStart quota plan leased.old) }
+    ensures unchanged { OnErr result (leased.new ≡ leased.old) }
+{
+    if leased.core().is_building() {
+        return Err(Fault::BuildRunning);
+    }
+    if plan.workers > WORKERS_MAX || plan.specs.len() > INDEXES_MAX || quota > QUOTA_MAX {
+        return Err(Fault::BadCount);
+    }
+    leased.start(choice, quota, plan)
+}
+
+/// The table under a name, for a switch.
+fn switched<T: Table>(
+    table: ShutLeased,
+    decided: &mut Option<Decided>,
+) -> (ShutLeased, Result<usize, Fault>)
+    requires pages { table.pages ≡ T.pages }
+    requires sides { table.sides ≡ T.sides }
+    ensures decided { IfOk result.1 (λ number. IsSomeAnd decided.new (λ told. Decides table.core number told result.0.core)) }
+    ensures refused { IfErr result.1 (λ fault. FailsToDecide table.core fault result.0.core) }
+    ensures kept { OnErr result.1 (decided.new ≡ decided.old) }
+{
+    let mut named = table.open::<T>();
+    let number = decide(&mut named, decided);
+    (named.shut(), number)
+}
+
+/// Tries the switch, and notes what it decides. What makes the keys of the build's indexes is copied before.
+pub(crate) fn decide<T: Table>(
+    leased: &mut LeasedCore<T>,
+    decided: &mut Option<Decided>,
+) -> Result<usize, Fault>
+    ensures decided { IfOk result (λ number. IsSomeAnd decided.new (λ told. Decides leased.old number told leased.new)) }
+    ensures refused { IfErr result (λ fault. FailsToDecide leased.old fault leased.new) }
+    ensures kept { OnErr result (decided.new ≡ decided.old) }
+{
+    let specs = build_specs(leased)?;
+    let (number, verdicts, _missing) = leased.switch()?;
+    *decided = Some(Decided::new(specs, verdicts));
+    Ok(number)
+}
+
+/// Copies of what makes the keys of the indexes that are being built.
+fn build_specs<T: Table>(leased: &LeasedCore<T>) -> Result<Vec<KeySpec>, Fault>
+    ensures ok { IfOk result (λ specs. IfSome leased.now.live.build (λ b. specs.items ≡ b.specs)) }
+    ensures memory { IfErr result (λ fault. fault ≡ Fault.Memory) }
+{
+    let live = leased.core().live();
+    match live.specs() {
+        Some(specs) => copied_specs(live.allocator(), specs),
+        None => Ok(Vec::new(live.allocator())),
     }
 }
 
@@ -41,28 +145,12 @@ impl Kept {
 fn abandoned<T: Table>(table: ShutLeased) -> (ShutLeased, Result<(), Fault>)
     requires pages { table.pages ≡ T.pages }
     requires sides { table.sides ≡ T.sides }
-    ensures { MatchResult result.1
-        (λ _. EndsBuild Event.Abandon Reply.Abandoned table.core result.0.core)
-        (λ fault. Step table.core Event.Abandon (Reply.Refused fault) result.0.core) }
+    ensures abandoned { OnOk result.1 (EndsBuild Event.Abandon Reply.Abandoned table.core result.0.core) }
+    ensures refused { IfErr result.1 (λ fault. Step table.core Event.Abandon (Reply.Refused fault) result.0.core) }
 {
     let mut named = table.open::<T>();
     match named.abandon() {
         Ok(_missing) => (named.shut(), Ok(())),
-        Err(fault) => (named.shut(), Err(fault)),
-    }
-}
-
-/// The table under a name, for a switch.
-fn switched<T: Table>(table: ShutLeased) -> (ShutLeased, Result<(usize, Verdicts), Fault>)
-    requires pages { table.pages ≡ T.pages }
-    requires sides { table.sides ≡ T.sides }
-    ensures { MatchResult result.1
-        (λ told. EndsBuild Event.Switch (Reply.Switched told.0 told.1) table.core result.0.core)
-        (λ fault. Step table.core Event.Switch (Reply.Refused fault) result.0.core) }
-{
-    let mut named = table.open::<T>();
-    match named.switch() {
-        Ok((number, verdicts, _missing)) => (named.shut(), Ok((number, verdicts))),
         Err(fault) => (named.shut(), Err(fault)),
     }
 }

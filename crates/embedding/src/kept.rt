@@ -1,8 +1,10 @@
-ghost use Rattle.std.specs.Prelude.{◌≡◌, None, IfOk, IfErr, MatchOption};
+ghost use Rattle.std.specs.Prelude.{◌≡◌, true, None, Some, is_some, IfOk, IfErr};
 ghost use Rattle.build_events.specs.Steps.{Step};
 ghost use Rattle.leased_core.specs.Leasing.{KeepsBuild};
-ghost use Rattle.embedding.specs.KeptTables.{Becomes, IsNowhere, IsTable, new_table};
+ghost use Rattle.embedding.specs.KeptTables.{new_table};
 
+use crate::decided::Decided;
+use crate::progress::PageCount;
 use builder_core::{Event, Parts, Reply, Table};
 use heap_table::Heap;
 use keybytes::Fault;
@@ -10,52 +12,90 @@ use leased_core::{LeasedCore, ShutLeased};
 use std::alloc::Global;
 use std::marker::{Brand, Model};
 
-/// A table with its builds, without a name. It is there from its making on, but for the time that a call works on it.
+/// A table with its builds, without a name, and what its newest switch decided. Contracts see the core, and that.
 ///
-/// To let it go lets the table go, and with it the pool and the spools of a build that runs: [`Kept::abandon`] ends these.
+/// To let it go lets the table go, and with it the pool and the spools of a build that runs: [`Kept::close`] counts their pages.
 pub struct Kept {
+    /// It is there but for the time that a call works on it.
     pub(crate) table: Option<ShutLeased>,
+    pub(crate) decided: Option<Decided>,
+    pub(crate) pages: PageCount,
 }
 
 impl Drop for Kept {
     fn drop(self) {
-        let Kept { table: _ } = self;
+        let Kept {
+            table: _,
+            decided: _,
+            pages: _,
+        } = self;
     }
 }
 
 impl Model for Kept {
-    ghost use Rattle.std.specs.Prelude.{Option};
-    ghost use Rattle.build_halves.specs.Builds.{ShutValue};
+    ghost use Rattle.std.specs.Prelude.{◌≡◌, true, is_some};
+    ghost use Rattle.embedding.specs.KeptTables.{KeptValue, table_in};
 
-    ghost Value = { Option ShutValue };
+    ghost Value = { KeptValue };
 
-    ghost view = { λ kept. kept.table };
+    ghost view = { λ kept. record { core = table_in kept.table; decided = kept.decided } };
+
+    ghost invariant = { λ kept. is_some kept.table ≡ true };
 }
 
 impl Kept {
     /// A table over these rows, with no index and no build. Where memory runs out the rows are handed back.
     pub fn new(alloc: Global, heap: Heap) -> Result<Kept, (Heap, Fault)>
-        ensures ok { IfOk result (IsTable (new_table heap.state)) }
+        ensures ok { IfOk result (λ kept. kept ≡ record { core = new_table heap.state; decided = None }) }
         ensures handed_back { IfErr result (λ back. back.0 ≡ heap) }
         ensures memory { IfErr result (λ back. back.1 ≡ Fault.Memory) }
     {
         match Parts::new(alloc, heap) {
             Ok(parts) => Ok(Kept {
                 table: Some(opened::<Brand>(alloc, parts)),
+                decided: None,
+                pages: PageCount { all: 0, copied: 0 },
             }),
             Err(back) => Err(back),
         }
     }
 
-    /// Does one event that neither starts a build nor ends one; nothing where there is no table.
-    pub fn step(&mut self, event: Event) -> Option<Reply>
-        requires { KeepsBuild event }
-        ensures { MatchOption result (IsNowhere self.old self.new) (λ reply. Becomes (λ old new. Step old event reply new) self.old self.new) }
+    /// Gives up what is left of a build, and answers how many leased pages are missing.
+    pub fn close(self) -> usize
+        ensures { result ≡ 0 }
     {
-        let table = self.table.take()?;
-        let (table, reply) = stepped::<Brand>(table, event);
+        let Kept {
+            table,
+            decided: _,
+            pages: _,
+        } = self;
+        match table {
+            Some(table) => closed::<Brand>(table),
+            None => 0,
+        }
+    }
+
+    /// Does one event that neither starts a build nor ends one.
+    pub fn step(&mut self, event: Event) -> Reply
+        requires { KeepsBuild event }
+        ensures step { Step self.old.core event result self.new.core }
+        ensures decided { self.new.decided ≡ self.old.decided }
+    {
+        let (table, reply) = stepped::<Brand>(taken(&mut self.table), event);
         self.table = Some(table);
-        Some(reply)
+        self.pages = self.pages.after(&reply);
+        reply
+    }
+}
+
+/// Takes the table out of its place, for a call to work on.
+pub(crate) fn taken(table: &mut Option<ShutLeased>) -> ShutLeased
+    requires { is_some table.old ≡ true }
+    ensures { table.old ≡ Some result }
+{
+    match table.take() {
+        Some(table) => table,
+        None => unreachable!(),
     }
 }
 
@@ -67,6 +107,15 @@ fn opened<T: Table>(alloc: Global, parts: Parts) -> ShutLeased
 {
     let (live, ends) = parts.open::<T>();
     LeasedCore::new(alloc, live, ends).shut()
+}
+
+/// The table under a name, to be closed.
+fn closed<T: Table>(table: ShutLeased) -> usize
+    requires pages { table.pages ≡ T.pages }
+    requires sides { table.sides ≡ T.sides }
+    ensures { result ≡ 0 }
+{
+    table.open::<T>().close()
 }
 
 /// The table under a name, for one event.

@@ -6,7 +6,13 @@
 //! [`LeasedCore`]: leased_core::LeasedCore
 #![tactic(auto)]
 
+mod advancing;
 mod builds;
+mod decided;
 mod kept;
+mod lookups;
+mod progress;
+mod reads;
 
 pub use kept::Kept;
+pub use progress::Progress;

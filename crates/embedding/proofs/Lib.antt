@@ -1,0 +1,4 @@
+mod Looking
+mod Pieces
+mod Switches
+mod Tables

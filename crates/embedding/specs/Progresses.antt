@@ -1,0 +1,20 @@
+-- How far a build is.
+use Rattle.std.specs.Prelude.{ℕ, List, length, Option, Some, None}
+use Rattle.std.specs.List.{sum_by, range_with_len, slice_get}
+use Rattle.heap_log.specs.declared.record.LogRec.{LogRec}
+use Rattle.build_events.specs.CoreState.{BuildState, LiveState}
+use Rattle.build_events.specs.Workers.{unfed}
+
+-- how many indexes the build has that runs
+abbrev pub index_count : Option BuildState → ℕ
+index_count None = 0
+index_count (Some b) = length b.specs
+
+-- how many entries of the side-file of an index were not fed
+abbrev pub unfed_at : List LogRec → Option BuildState → ℕ → ℕ
+unfed_at log None index = 0
+unfed_at log (Some b) index = unfed b log index (slice_get b.specs index)
+
+-- and of all its side-files
+abbrev pub all_unfed : LiveState → ℕ
+all_unfed live = sum_by (unfed_at live.heap.log live.build) (range_with_len 0 (index_count live.build))

@@ -1,0 +1,172 @@
+//! Look-ups in the ready indexes of a table that is kept.
+ghost use Rattle.std.specs.Prelude.{◌≡◌, None, Some, length, slice_get, IfOk, IfErr, MatchOption};
+ghost use Rattle.std.specs.Option.{option_map};
+ghost use Rattle.keybytes.specs.Faults.{RefusedFor};
+ghost use Rattle.embedding.specs.Lookups.{GoesOnWith, IsFirstKey, key_refusal, number_refusal, onward, pair_of};
+
+use crate::Kept;
+use crate::kept::taken;
+use btree::Tree;
+use builder_core::{Core, Pair, Table};
+use keybytes::{Fault, Key, KeySpec, Rid, Row};
+use leased_core::ShutLeased;
+use spool_kinds::SpoolOfKind;
+use std::marker::Brand;
+use tree_nodes::is_after;
+
+impl Kept {
+    /// How many indexes are ready. Takes no memory.
+    pub fn ready(&mut self) -> usize
+        ensures ready { result ≡ length self.old.core.live.ready }
+        ensures unchanged { self.new ≡ self.old }
+    {
+        let (table, ready) = ready_of::<Brand>(taken(&mut self.table));
+        self.table = Some(table);
+        ready
+    }
+
+    /// The key that the first so many columns of a ready index have of the row, which it may lack. [`Fault::BadCount`] where there is no such index, or no
+    /// or more columns; [`Fault::BadColumn`] of an index of other columns than the table's; [`Fault::RowShape`].
+    pub fn key(&mut self, number: usize, columns: usize, row: &Row) -> Result<Key, Fault>
+        ensures ok { IfOk result (IsFirstKey self.old.core.live.heap.schema columns (slice_get self.old.core.live.ready number) row.now) }
+        ensures refused { IfErr result (RefusedFor (key_refusal self.old.core.live number columns row.now)) }
+        ensures unchanged { self.new ≡ self.old }
+    {
+        let (table, key) = key_by::<Brand>(taken(&mut self.table), number, columns, row);
+        self.table = Some(table);
+        key
+    }
+
+    /// The first pair of a ready index that isn't before the key and RID; with `past` the first of those that is behind it. So whoever reads a part of the
+    /// pairs goes on behind its last one, whatever was put in and taken out meanwhile. [`Fault::BadCount`]. A key of up to 24 bytes takes no memory.
+    pub fn next(
+        &mut self,
+        number: usize,
+        key: &Key,
+        rid: Rid,
+        past: bool,
+    ) -> Result<Option<(Key, Rid)>, Fault>
+        ensures ok { IfOk result (λ found.
+            GoesOnWith past (record { key = key.now; rid = rid }) (slice_get self.old.core.live.ready number) (option_map pair_of found)) }
+        ensures refused { IfErr result (RefusedFor (number_refusal (slice_get self.old.core.live.ready number))) }
+        ensures unchanged { self.new ≡ self.old }
+    {
+        let (table, found) = next_of::<Brand>(taken(&mut self.table), number, key, rid, past);
+        self.table = Some(table);
+        found
+    }
+}
+
+/// The table under a name, for the number of its ready indexes.
+fn ready_of<T: Table>(table: ShutLeased) -> (ShutLeased, usize)
+    requires pages { table.pages ≡ T.pages }
+    requires sides { table.sides ≡ T.sides }
+    ensures ready { result.1 ≡ length table.core.live.ready }
+    ensures unchanged { result.0.core ≡ table.core }
+{
+    let named = table.open::<T>();
+    let ready = named.core().live().ready().len();
+    (named.shut(), ready)
+}
+
+/// The table under a name, for a key.
+fn key_by<T: Table>(
+    table: ShutLeased,
+    number: usize,
+    columns: usize,
+    row: &Row,
+) -> (ShutLeased, Result<Key, Fault>)
+    requires pages { table.pages ≡ T.pages }
+    requires sides { table.sides ≡ T.sides }
+    ensures ok { IfOk result.1 (IsFirstKey table.core.live.heap.schema columns (slice_get table.core.live.ready number) row.now) }
+    ensures refused { IfErr result.1 (RefusedFor (key_refusal table.core.live number columns row.now)) }
+    ensures unchanged { result.0.core ≡ table.core }
+{
+    let named = table.open::<T>();
+    let key = first_key(named.core(), number, columns, row);
+    (named.shut(), key)
+}
+
+/// The key by the first columns of a ready index.
+fn first_key<T: Table>(
+    core: &Core<SpoolOfKind, T>,
+    number: usize,
+    columns: usize,
+    row: &Row,
+) -> Result<Key, Fault>
+    ensures ok { IfOk result (IsFirstKey core.now.live.heap.schema columns (slice_get core.now.live.ready number) row.now) }
+    ensures refused { IfErr result (RefusedFor (key_refusal core.now.live number columns row.now)) }
+{
+    let index = core.ready(number)?;
+    let live = core.live();
+    let schema = live.heap().schema();
+    let all = index.spec().columns();
+    if columns == 0 || columns > all.len() {
+        return Err(Fault::BadCount);
+    }
+    if !index.spec().is_of(schema) {
+        return Err(Fault::BadColumn);
+    }
+    if !row.fits(schema) {
+        return Err(Fault::RowShape);
+    }
+    let alloc = live.allocator();
+    let spec = KeySpec::new(alloc, schema, all[..columns].to_vec(alloc)?, false)?;
+    match spec.key(row)? {
+        Some(key) => Ok(key),
+        None => unreachable!(),
+    }
+}
+
+/// The table under a name, for a pair.
+fn next_of<T: Table>(
+    table: ShutLeased,
+    number: usize,
+    key: &Key,
+    rid: Rid,
+    past: bool,
+) -> (ShutLeased, Result<Option<(Key, Rid)>, Fault>)
+    requires pages { table.pages ≡ T.pages }
+    requires sides { table.sides ≡ T.sides }
+    ensures ok { IfOk result.1 (λ found.
+        GoesOnWith past (record { key = key.now; rid = rid }) (slice_get table.core.live.ready number) (option_map pair_of found)) }
+    ensures refused { IfErr result.1 (RefusedFor (number_refusal (slice_get table.core.live.ready number))) }
+    ensures unchanged { result.0.core ≡ table.core }
+{
+    let named = table.open::<T>();
+    let found = next_pair(named.core(), number, key, rid, past);
+    (named.shut(), found)
+}
+
+/// The next pair of a ready index.
+fn next_pair<T: Table>(
+    core: &Core<SpoolOfKind, T>,
+    number: usize,
+    key: &Key,
+    rid: Rid,
+    past: bool,
+) -> Result<Option<(Key, Rid)>, Fault>
+    ensures ok { IfOk result (λ found.
+        GoesOnWith past (record { key = key.now; rid = rid }) (slice_get core.now.live.ready number) (option_map pair_of found)) }
+    ensures refused { IfErr result (RefusedFor (number_refusal (slice_get core.now.live.ready number))) }
+{
+    let index = core.ready(number)?;
+    match first_from(index.tree(), key, rid, past) {
+        Some(pair) => Ok(Some((pair.key.clone()?, pair.rid))),
+        None => Ok(None),
+    }
+}
+
+/// The first pair of a tree from that of the key and RID on; with `past`, the first that is behind it.
+fn first_from<'a>(tree: &'a Tree, key: &Key, rid: Rid, past: bool) -> Option<&'a Pair>
+    ensures { MatchOption result
+        (slice_get (onward past (record { key = key.now; rid = rid }) tree.now.pairs) 0 ≡ None)
+        (λ pair. slice_get (onward past (record { key = key.now; rid = rid }) tree.now.pairs) 0 ≡ Some pair.now) }
+{
+    let mut pairs = tree.iter_from(key, rid);
+    let first = pairs.next()?;
+    if past && !is_after(first, key, rid) {
+        return pairs.next();
+    }
+    Some(first)
+}
