@@ -2,3 +2,4 @@ mod Looking
 mod Pieces
 mod Switches
 mod Tables
+mod Unfed

@@ -1,5 +1,5 @@
 -- Events of a build's work, one after another.
-use Rattle.std.proofs.Common.{◌≡◌, ℕ, List, [], ◌∷◌, ◌++◌, refl, subst, inl, inr}
+use Rattle.std.proofs.Common.{◌≡◌, ℕ, List, [], ◌∷◌, ◌++◌, Result, Ok, Err, IfErr, OnOk, refl, subst, inl, inr}
 use Rattle.std.proofs.lemmas.List.Elements.{All-nil, All-append, All-push}
 use Rattle.keybytes.specs.declared.fault.Fault.{Fault}
 use Rattle.build_events.specs.CoreState.{CoreState}
@@ -90,3 +90,15 @@ ends_work old mid new number decided works decides = record { mid = mid; works =
 
 pub works_in_vain : (old mid new : CoreState) (fault : Fault) → WorksOn old mid → FailsToDecide mid fault new → FailsToAdvance old fault new
 works_in_vain old mid new fault works fails = inr (record { mid = mid; works = works; fails = fails })
+
+-- the same of a call that works on, if it doesn't stop
+pub works_if_ok :
+    {T : Type 0} (told : Result T Fault) (old mid new : CoreState) → WorksOn old mid → OnOk told (WorksOn mid new) → OnOk told (WorksOn old new)
+works_if_ok (Ok x) old mid new works more = works_further old mid new works more
+works_if_ok (Err fault) old mid new works more = tt
+
+pub stops_if_err :
+    {T : Type 0} (told : Result T Fault) (old mid new : CoreState) → WorksOn old mid → IfErr told (λ fault. StopsWork mid fault new)
+    → IfErr told (λ fault. StopsWork old fault new)
+stops_if_err (Ok x) old mid new works stops = tt
+stops_if_err (Err fault) old mid new works stops = stops_further old mid new fault works stops

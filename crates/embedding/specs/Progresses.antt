@@ -1,6 +1,6 @@
 -- How far a build is.
-use Rattle.std.specs.Prelude.{ℕ, List, length, Option, Some, None}
-use Rattle.std.specs.List.{sum_by, range_with_len, slice_get}
+use Rattle.std.specs.Prelude.{ℕ, zero, suc, ◌+◌, List, length, Option, Some, None}
+use Rattle.std.specs.List.{slice_get}
 use Rattle.heap_log.specs.declared.record.LogRec.{LogRec}
 use Rattle.build_events.specs.CoreState.{BuildState, LiveState}
 use Rattle.build_events.specs.Workers.{unfed}
@@ -15,6 +15,11 @@ abbrev pub unfed_at : List LogRec → Option BuildState → ℕ → ℕ
 unfed_at log None index = 0
 unfed_at log (Some b) index = unfed b log index (slice_get b.specs index)
 
--- and of all its side-files
+-- and of the first so many of its side-files together
+abbrev pub unfed_below : List LogRec → Option BuildState → ℕ → ℕ
+unfed_below log build zero = 0
+unfed_below log build (suc count) = unfed_below log build count + unfed_at log build count
+
+-- and of all
 abbrev pub all_unfed : LiveState → ℕ
-all_unfed live = sum_by (unfed_at live.heap.log live.build) (range_with_len 0 (index_count live.build))
+all_unfed live = unfed_below live.heap.log live.build (index_count live.build)

@@ -41,6 +41,13 @@ impl Decided {
         self.verdicts.as_slice().get(index)
     }
 
+    /// What makes its keys.
+    fn spec(&self, index: usize) -> Option<&KeySpec>
+        ensures { MatchOption result (slice_get self.now.specs index ≡ None) (λ spec. slice_get self.now.specs index ≡ Some spec.now) }
+    {
+        self.specs.as_slice().get(index)
+    }
+
     /// The columns of the key for which it was refused, if it was.
     fn shared_cells(&self, index: usize) -> Result<Option<Vec<Cell>>, Fault>
         ensures ok { IfOk result (λ told. MatchOption told
@@ -48,9 +55,13 @@ impl Decided {
             (λ cells. AreSharedCells (slice_get self.now.specs index) (slice_get self.now.verdicts index) cells.items)) }
         ensures memory { IfErr result (λ fault. fault ≡ Fault.Memory) }
     {
-        match (self.specs.get(index), self.verdicts.as_slice().get(index)) {
-            (Some(spec), Some(Outcome::Shared { key, .. })) => Ok(Some(spec.cells(key)?)),
-            _ => Ok(None),
+        let _kept = &self.specs;
+        match self.verdict(index) {
+            Some(Outcome::Shared { key, .. }) => match self.spec(index) {
+                Some(spec) => Ok(Some(spec.cells(key)?)),
+                None => unreachable!(),
+            },
+            Some(Outcome::Ready(_)) | None => Ok(None),
         }
     }
 }
