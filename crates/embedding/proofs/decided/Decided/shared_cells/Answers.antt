@@ -1,4 +1,4 @@
-use Rattle.std.proofs.Common.{◌≡◌, List, Option, Some, sym, subst}
+use Rattle.std.proofs.Common.{◌≡◌, List, Option, Some, ap, sym, subst, ◌∙◌}
 use Rattle.std.specs.List.{slice_get}
 use Rattle.keybytes.specs.Keys.{KeySpecValue}
 use Rattle.heap_log.specs.declared.outcome.Outcome.{Outcome}
@@ -11,7 +11,8 @@ use Rattle.embedding.proofs.decided.Decided.shared_cells.Goals as goal
 pub cells-requires : goal.cells-requires
 cells-requires c =
     let keys = subst (λ (d : DecidedValue). HaveSharedKeys d.specs d.verdicts) c.self.view_is c.self.invariant in
-    shared_key c.args.self.now.specs c.args.self.now.verdicts c.args.index c.in-Some.spec.now c.in-Some-Shared.key _ _ keys c.in-Some.ensures c.in-Some-Shared.ensures
+    shared_key c.args.self.now.specs c.args.self.now.verdicts c.args.index c.in-Some.spec.now c.in-Some-Shared.key _ _ keys c.in-Some.ensures
+    (c.in-Some-Shared.ensures ∙ ap Some c.in-Some-Shared.field-0-is)
 
 pub unreachable-requires : goal.unreachable-requires
 unreachable-requires c =
@@ -22,5 +23,5 @@ pub returns-in_ok-cells-in-Some-clause-ok : goal.returns-in_ok-cells-in-Some-cla
 returns-in_ok-cells-in-Some-clause-ok c =
     let cells = c.in_ok-cells-in-Some.field-0.items in
     subst (λ (spec : Option KeySpecValue). AreSharedCells spec (slice_get c.args.self.now.verdicts c.args.index) cells) (sym c.in-Some.ensures)
-    (subst (λ (verdict : Option Outcome). AreSharedCells (Some c.in-Some.spec.now) verdict cells) (sym c.in-Some-Shared.ensures)
+    (subst (λ (verdict : Option Outcome). AreSharedCells (Some c.in-Some.spec.now) verdict cells) (sym (c.in-Some-Shared.ensures ∙ ap Some c.in-Some-Shared.field-0-is))
     c.in_ok-cells-in-Some.ensures.columns)
