@@ -1,0 +1,46 @@
+-- What the calls of a build do that are no single event of the core.
+use Rattle.std.specs.Prelude.{◌≡◌, ◌⊎◌, ℕ, Bool, true, false, List, None, length, IsSomeAnd}
+use Rattle.keybytes.specs.declared.fault.Fault.{Fault}
+use Rattle.keybytes.specs.declared.kind.Kind.{Kind}
+use Rattle.scan_range.specs.declared.dealing.Dealing.TheVariants.{Even}
+use Rattle.build_events.specs.declared.event.Event.TheVariants.{Abandon}
+use Rattle.build_events.specs.declared.plan.Plan.{Plan}
+use Rattle.build_events.specs.declared.reply.Reply.TheVariants.{Abandoned, Started}
+use Rattle.leased_core.specs.Leasing.{EndsBuild, StartsOver}
+use Rattle.embedding.specs.Decisions.{Decides, FailsToDecide, verdicts_in}
+use Rattle.embedding.specs.KeptTables.{KeptValue}
+use Rattle.embedding.specs.Starts.{RefusesStart, limits_refusal}
+use Rattle.sfbuild_c.specs.IndexBytes.{RefusesIndexes, SpellsIndexes}
+
+-- a build of the indexes that the bytes are of, with so many workers and ranges
+pub record IsAskedFor (kinds : List Kind) (bytes : List ℕ) (workers ranges : ℕ) (plan : Plan) : Type 0 where
+  pub specs : SpellsIndexes kinds bytes plan.specs.items
+  pub workers_are : plan.workers ≡ workers
+  pub dealing : plan.dealing ≡ Even ranges
+
+-- the build that is asked for starts, and reads so many pages
+abbrev pub Starts : List ℕ → ℕ → ℕ → ℕ → ℕ → KeptValue → KeptValue → Type 0
+Starts bytes workers ranges quota pages before after =
+    (after.decided ≡ before.decided)
+    × ((plan : Plan) × IsAskedFor before.core.live.heap.schema bytes workers ranges plan
+    × (limits_refusal quota plan before.core ≡ None) × StartsOver quota plan before.core (Started pages) after.core)
+
+-- it doesn't: the bytes are of no indexes, or the build is refused
+abbrev pub FailsToStart : List ℕ → ℕ → ℕ → ℕ → Fault → KeptValue → KeptValue → Type 0
+FailsToStart bytes workers ranges quota fault before after =
+    (after ≡ before)
+    × (RefusesIndexes before.core.live.heap.schema bytes fault
+    ⊎ ((plan : Plan) × IsAskedFor before.core.live.heap.schema bytes workers ranges plan × RefusesStart quota plan before.core fault))
+
+-- a switch decides, of so many indexes
+abbrev pub SwitchesTo : ℕ → KeptValue → KeptValue → Type 0
+SwitchesTo indexes before after =
+    IsSomeAnd after.decided (λ decided. (number : ℕ) × Decides before.core number decided after.core) × (indexes ≡ length (verdicts_in after.decided))
+
+-- a switch does not decide
+abbrev pub FailsToSwitch : Fault → KeptValue → KeptValue → Type 0
+FailsToSwitch fault before after = FailsToDecide before.core fault after.core × (after.decided ≡ before.decided)
+
+-- the build is given up
+abbrev pub IsGivenUp : KeptValue → KeptValue → Type 0
+IsGivenUp before after = EndsBuild Abandon Abandoned before.core after.core × (after.decided ≡ before.decided)

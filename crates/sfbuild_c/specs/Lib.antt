@@ -1,0 +1,11 @@
+pub mod Answers
+pub mod Buffers
+pub mod Building
+pub mod Causes
+pub mod IndexBytes
+pub mod KindBytes
+pub mod Lookups
+pub mod Opening
+pub mod Owned
+pub mod Places
+pub mod Reading

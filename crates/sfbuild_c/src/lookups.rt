@@ -1,0 +1,100 @@
+//! Look-ups in the ready indexes.
+ghost use Rattle.std.specs.Prelude.{◌≡◌};
+ghost use Rattle.sfbuild_c.specs.Answers.{Answers};
+ghost use Rattle.sfbuild_c.specs.Reading.{HasReady, RefusesNothing};
+
+use crate::buffer::hand_out;
+use crate::place::Place;
+use crate::session::Session;
+use crate::status::{CLOSED, DONE, END};
+use embedding::Kept;
+use keybytes::{Fault, KEY_MAX, Key, Rid};
+use std::alloc::Global;
+
+/// Tells how many indexes are ready.
+#[unsafe(no_mangle)]
+pub extern "C" fn sfbuild_ready(alloc: Global, session: &mut Session, indexes: &mut usize) -> u8
+    ensures { Answers (HasReady indexes.new) RefusesNothing result session.old session.new }
+{
+    let Some(mut table) = session.take(alloc) else {
+        return CLOSED;
+    };
+    *indexes = table.ready();
+    session.put(table);
+    DONE
+}
+
+/// Writes the key that the first columns of a ready index have of a row, and its length.
+#[unsafe(no_mangle)]
+pub extern "C" fn sfbuild_key(
+    alloc: Global,
+    session: &mut Session,
+    index: usize,
+    columns: usize,
+    row: &[u8],
+    key: &mut [u8],
+    length: &mut usize,
+) -> u8 {
+    let Some(mut table) = session.take(alloc) else {
+        return CLOSED;
+    };
+    let found = key_of(&mut table, index, columns, row);
+    session.put(table);
+    match found {
+        Ok(found) => hand_out(found.bytes(), key, length),
+        Err(fault) => session.tell(fault),
+    }
+}
+
+/// The key of a row that comes as bytes.
+fn key_of(table: &mut Kept, index: usize, columns: usize, bytes: &[u8]) -> Result<Key, Fault> {
+    let row = table.read_row(bytes)?;
+    table.key(index, columns, &row)
+}
+
+/// Writes the first pair of a ready index that isn't before the key and the place, or with `past` the first behind it, in their stead.
+#[unsafe(no_mangle)]
+pub extern "C" fn sfbuild_next(
+    alloc: Global,
+    session: &mut Session,
+    index: usize,
+    past: bool,
+    key: &mut [u8],
+    length: &mut usize,
+    rid: &mut Place,
+) -> u8 {
+    let Some(mut table) = session.take(alloc) else {
+        return CLOSED;
+    };
+    let found = next_from(&mut table, alloc, index, past, key, *length, rid.rid());
+    session.put(table);
+    match found {
+        Ok(Some((found, at))) => {
+            let status = hand_out(found.bytes(), key, length);
+            if status == DONE {
+                *rid = Place::of(at);
+            }
+            status
+        }
+        Ok(None) => END,
+        Err(fault) => session.tell(fault),
+    }
+}
+
+/// The next pair from a key that comes as bytes.
+fn next_from(
+    table: &mut Kept,
+    alloc: Global,
+    index: usize,
+    past: bool,
+    bytes: &[u8],
+    told: usize,
+    rid: Rid,
+) -> Result<Option<(Key, Rid)>, Fault> {
+    if told > bytes.len() || told > KEY_MAX {
+        return Err(Fault::BadCount);
+    }
+    let mut key = Key::new(alloc);
+    key.add(&bytes[..told])?;
+    table.next(index, &key, rid, past)
+}
