@@ -9,6 +9,7 @@ use Rattle.build_events.specs.declared.reply.Reply.TheVariants.{Abandoned, Start
 use Rattle.leased_core.specs.Leasing.{EndsBuild, StartsOver}
 use Rattle.embedding.specs.Decisions.{Decides, FailsToDecide, verdicts_in}
 use Rattle.embedding.specs.KeptTables.{KeptValue}
+use Rattle.embedding.specs.Pieces.{FailsToAdvance, WorksOn, WorksToTheEnd}
 use Rattle.embedding.specs.Starts.{RefusesStart, limits_refusal}
 use Rattle.sfbuild_c.specs.IndexBytes.{RefusesIndexes, SpellsIndexes}
 
@@ -31,6 +32,15 @@ FailsToStart bytes workers ranges quota fault before after =
     (after ≡ before)
     × (RefusesIndexes before.core.live.heap.schema bytes fault
     ⊎ ((plan : Plan) × IsAskedFor before.core.live.heap.schema bytes workers ranges plan × RefusesStart quota plan before.core fault))
+
+-- a piece of a build: the last, which is the switch, or one before it
+abbrev pub Advances : Bool → KeptValue → KeptValue → Type 0
+Advances true before after = IsSomeAnd after.decided (λ decided. WorksToTheEnd before.core decided after.core)
+Advances false before after = WorksOn before.core after.core × (after.decided ≡ before.decided)
+
+-- a piece of a build ends with a fault
+abbrev pub FailsToGoOn : Fault → KeptValue → KeptValue → Type 0
+FailsToGoOn fault before after = FailsToAdvance before.core fault after.core × (after.decided ≡ before.decided)
 
 -- a switch decides, of so many indexes
 abbrev pub SwitchesTo : ℕ → KeptValue → KeptValue → Type 0

@@ -9,3 +9,4 @@ pub mod Opening
 pub mod Owned
 pub mod Places
 pub mod Reading
+pub mod Telling

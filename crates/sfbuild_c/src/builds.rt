@@ -3,7 +3,7 @@ ghost use Rattle.std.specs.Prelude.{◌≡◌};
 ghost use Rattle.build_events.specs.declared.event.Event.{Event};
 ghost use Rattle.build_events.specs.declared.reply.Reply.{Reply};
 ghost use Rattle.sfbuild_c.specs.Answers.{Answered, Answers, Steps};
-ghost use Rattle.sfbuild_c.specs.Building.{IsGivenUp};
+ghost use Rattle.sfbuild_c.specs.Building.{Advances, FailsToGoOn, FailsToSwitch, IsGivenUp, SwitchesTo};
 
 use crate::index_bytes::read_indexes;
 use crate::session::Session;
@@ -166,7 +166,8 @@ pub extern "C" fn sfbuild_start(
     ranges: usize,
     quota: usize,
     pages: &mut u32,
-) -> u8 {
+) -> u8
+{
     let Some(mut table) = session.take(alloc) else {
         return CLOSED;
     };
@@ -189,7 +190,8 @@ fn start(
     workers: usize,
     ranges: usize,
     quota: usize,
-) -> Result<u32, Fault> {
+) -> Result<u32, Fault>
+{
     let specs = read_indexes(alloc, indexes, &table.schema())?;
     let plan = Plan {
         specs,
@@ -201,9 +203,35 @@ fn start(
     table.start(SpoolChoice::Prefix, quota, plan)
 }
 
+/// Does the next piece of the build, and tells whether its indexes were brought into use by it.
+#[unsafe(no_mangle)]
+pub extern "C" fn sfbuild_step(
+    alloc: Global,
+    session: &mut Session,
+    most: usize,
+    ready: &mut bool,
+) -> u8
+    ensures { Answers (Advances ready.new) FailsToGoOn result session.old session.new }
+{
+    let Some(mut table) = session.take(alloc) else {
+        return CLOSED;
+    };
+    let advanced = table.advance(most);
+    session.put(table);
+    match advanced {
+        Ok(switched) => {
+            *ready = switched;
+            DONE
+        }
+        Err(fault) => session.tell(fault),
+    }
+}
+
 /// Tries to bring the indexes of the build into use, and tells how many these were.
 #[unsafe(no_mangle)]
-pub extern "C" fn sfbuild_switch(alloc: Global, session: &mut Session, indexes: &mut usize) -> u8 {
+pub extern "C" fn sfbuild_switch(alloc: Global, session: &mut Session, indexes: &mut usize) -> u8
+    ensures { Answers (SwitchesTo indexes.new) FailsToSwitch result session.old session.new }
+{
     let Some(mut table) = session.take(alloc) else {
         return CLOSED;
     };

@@ -21,4 +21,5 @@ mod session;
 mod status;
 mod table;
 mod tells;
+mod verdict;
 mod writes;
