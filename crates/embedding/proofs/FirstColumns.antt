@@ -1,5 +1,6 @@
 -- The first columns of a key.
-use Rattle.std.proofs.Common.{◌≡◌, ℕ, zero, suc, ◌≤◌, ◌&&◌, not, nat_le, nat_lt, nat_eq, Bool, true, false, List, [], ◌∷◌, length, take, min, Some, None, refl, subst, arith, length-take}
+use Rattle.std.proofs.Common.{◌≡◌, ℕ, zero, suc, ◌≤◌, ◌&&◌, not, nat_le, nat_lt, nat_eq, Bool, true, false, List, [], ◌∷◌, length, take, min}
+use Rattle.std.proofs.Common.{Some, None, refl, subst, arith, length-take}
 use Rattle.std.specs.List.{list_any, list_all}
 use Rattle.std.proofs.lemmas.Bool.{and_parts, and_from, or_parts, or_from, not_from_false, leb-true, le-leb, lt-ltb, false_from_ne_true}
 use Rattle.keybytes.specs.Keys.{KeySpecValue, are_distinct, are_key_columns, are_there, has_key_length}
@@ -61,14 +62,15 @@ first_are_key_columns kinds n columns some most key =
     (distinct_first n columns rest.0)
     (all_first (λ (named : KeyCol). nat_lt named.column (length kinds)) n columns rest.1))
 
+-- there are so many columns, and some
+abbrev pub AreSoMany : ℕ → List KeyCol → Type 0
+AreSoMany count columns = (nat_le 1 count && nat_le count (length columns)) ≡ true
+
 -- so many columns, and some, of a specification make a key, or it is of other columns than the table
-module _
-    (kinds : List Kind) (count : ℕ) (spec : KeySpecValue) (front : (nat_le 1 count && nat_le count (length spec.columns)) ≡ true) where
+module _ (kinds : List Kind) (count : ℕ) (spec : KeySpecValue) (front : AreSoMany count spec.columns) where
   pub other_table : (spec.kinds ≡ kinds → ⊥) → spec_refusal kinds count spec ≡ Some BadColumn
   other_table other =
-      let differ : same_kinds spec.kinds kinds ≡ false =
-      false_from_ne_true (same_kinds spec.kinds kinds) (λ e. other ((same_kinds_decides spec.kinds kinds).0 e))
-      in
+      let differ = false_from_ne_true (same_kinds spec.kinds kinds) (λ e. other ((same_kinds_decides spec.kinds kinds).0 e)) in
       rw (front, differ) refl
 
   module _ (same : spec.kinds ≡ kinds) where
