@@ -1,3 +1,4 @@
+mod FirstColumns
 mod Looking
 mod Pieces
 mod Switches

@@ -7,6 +7,7 @@ use Rattle.keybytes.specs.Schemas.{same_kinds}
 use Rattle.keybytes.specs.declared.cell.Cell.{Cell}
 use Rattle.keybytes.specs.declared.fault.Fault.{Fault}
 use Rattle.keybytes.specs.declared.fault.Fault.TheVariants.{BadColumn, BadCount}
+use Rattle.keybytes.specs.declared.key_col.KeyCol.{KeyCol}
 use Rattle.keybytes.specs.declared.kind.Kind.{Kind}
 use Rattle.keybytes.specs.declared.pair.Pair.{Pair}
 use Rattle.keybytes.specs.declared.rid.Rid.{Rid}
@@ -16,16 +17,24 @@ use Rattle.build_events.specs.BuildSteps.{cause_if}
 use Rattle.build_events.specs.CoreState.{LiveState}
 use Rattle.ready_indexes.specs.Indexes.{ReadyValue}
 
--- what makes keys of the first so many columns of an index, of whatever row of the table
-abbrev pub first_columns : List Kind → ℕ → KeySpecValue → KeySpecValue
-first_columns kinds count spec = record { kinds = kinds; columns = take count spec.columns; unique = false; condition = None }
+-- what makes keys of these columns, of whatever row of the table
+abbrev pub keyed_by : List Kind → List KeyCol → KeySpecValue
+keyed_by kinds columns = record { kinds = kinds; columns = columns; unique = false; condition = None }
 
--- why no key is made of the first so many columns of an index, if there is one: it has fewer, or is of other columns than the table
+-- and of the first so many columns of an index
+abbrev pub first_columns : List Kind → ℕ → KeySpecValue → KeySpecValue
+first_columns kinds count spec = keyed_by kinds (take count spec.columns)
+
+-- why no key is made of the first so many columns of an index: it has fewer, or is of other columns than the table
+abbrev pub spec_refusal : List Kind → ℕ → KeySpecValue → Option Fault
+spec_refusal kinds count spec =
+    first_cause (cause_if (not (nat_le 1 count && nat_le count (length spec.columns))) BadCount)
+    (cause_if (not (same_kinds spec.kinds kinds)) BadColumn)
+
+-- if there is one
 abbrev pub columns_refusal : List Kind → ℕ → Option ReadyValue → Option Fault
 columns_refusal kinds count None = Some BadCount
-columns_refusal kinds count (Some index) =
-    first_cause (cause_if (not (nat_le 1 count && nat_le count (length index.spec.columns))) BadCount)
-    (cause_if (not (same_kinds index.spec.kinds kinds)) BadColumn)
+columns_refusal kinds count (Some index) = spec_refusal kinds count index.spec
 
 -- or of that row
 abbrev pub key_refusal : LiveState → ℕ → ℕ → List Cell → Option Fault

@@ -1,16 +1,21 @@
 //! Look-ups in the ready indexes of a table that is kept.
-ghost use Rattle.std.specs.Prelude.{◌≡◌, None, Some, length, slice_get, IfOk, IfErr, MatchOption};
+ghost use Rattle.std.specs.Prelude.{◌≡◌, ◌&&◌, None, Some, true, length, nat_le, slice_get, take, IfOk, IfErr, MatchOption, OnOk};
 ghost use Rattle.std.specs.Option.{option_map};
-ghost use Rattle.keybytes.specs.Faults.{RefusedFor};
+ghost use Rattle.keybytes.specs.Cells.{fits};
+ghost use Rattle.keybytes.specs.Faults.{RefusedFor, first_cause};
+ghost use Rattle.keybytes.specs.Keys.{are_key_columns, key_of};
+ghost use Rattle.keybytes.specs.Rows.{shape_refusal};
 ghost use Rattle.embedding.specs.Lookups.{GoesOnWith, IsFirstKey, key_refusal, number_refusal, onward, pair_of};
+ghost use Rattle.embedding.specs.Lookups.{first_columns, keyed_by, spec_refusal};
 
 use crate::Kept;
 use crate::kept::taken;
 use btree::Tree;
 use builder_core::{Core, Pair, Table};
-use keybytes::{Fault, Key, KeySpec, Rid, Row};
+use keybytes::{Fault, Key, KeyCol, KeySpec, Rid, Row, Schema};
 use leased_core::ShutLeased;
 use spool_kinds::SpoolOfKind;
+use std::alloc::Global;
 use std::marker::Brand;
 use tree_nodes::is_after;
 
@@ -99,19 +104,74 @@ fn first_key<T: Table>(
 {
     let index = core.ready(number)?;
     let live = core.live();
-    let schema = live.heap().schema();
-    let all = index.spec().columns();
-    if columns == 0 || columns > all.len() {
-        return Err(Fault::BadCount);
-    }
-    if !index.spec().is_of(schema) {
-        return Err(Fault::BadColumn);
-    }
+    key_by_first(
+        live.allocator(),
+        live.heap().schema(),
+        index.spec(),
+        columns,
+        row,
+    )
+}
+
+/// The key by the first columns of a specification.
+fn key_by_first(
+    alloc: Global,
+    schema: &Schema,
+    spec: &KeySpec,
+    count: usize,
+    row: &Row,
+) -> Result<Key, Fault>
+    ensures ok { IfOk result (λ key. key ≡ key_of (first_columns schema.now count spec.now) row.now) }
+    ensures refused { IfErr result (RefusedFor (first_cause (spec_refusal schema.now count spec.now) (shape_refusal schema.now row.now))) }
+{
+    let columns = first_columns(schema, spec, count)?;
     if !row.fits(schema) {
         return Err(Fault::RowShape);
     }
-    let alloc = live.allocator();
-    let spec = KeySpec::new(alloc, schema, all[..columns].to_vec(alloc)?, false)?;
+    key_by_columns(alloc, schema, columns, row)
+}
+
+/// The first columns of a specification, of a table with that schema.
+fn first_columns<'a>(
+    schema: &Schema,
+    spec: &'a KeySpec,
+    count: usize,
+) -> Result<&'a [KeyCol], Fault>
+    ensures columns { IfOk result (λ columns. columns.now ≡ take count spec.now.columns) }
+    ensures key { IfOk result (λ columns. are_key_columns schema.now columns.now ≡ true) }
+    ensures accepted { OnOk result (spec_refusal schema.now count spec.now ≡ None) }
+    ensures refused { IfErr result (λ fault. spec_refusal schema.now count spec.now ≡ Some fault) }
+{
+    let all = spec.columns();
+    if !has_so_many(count, all) {
+        return Err(Fault::BadCount);
+    }
+    if !spec.is_of(schema) {
+        return Err(Fault::BadColumn);
+    }
+    Ok(&all[..count])
+}
+
+/// Whether there are so many columns, and some.
+fn has_so_many(count: usize, columns: &[KeyCol]) -> bool
+    ensures { result ≡ (nat_le 1 count && nat_le count (length columns.now)) }
+{
+    count >= 1 && count <= columns.len()
+}
+
+/// The key by these columns of a table.
+fn key_by_columns(
+    alloc: Global,
+    schema: &Schema,
+    columns: &[KeyCol],
+    row: &Row,
+) -> Result<Key, Fault>
+    requires key { are_key_columns schema.now columns.now ≡ true }
+    requires fits { fits schema.now row.now ≡ true }
+    ensures ok { IfOk result (λ key. key ≡ key_of (keyed_by schema.now columns.now) row.now) }
+    ensures memory { IfErr result (λ fault. fault ≡ Fault.Memory) }
+{
+    let spec = KeySpec::new(alloc, schema, columns.to_vec(alloc)?, false)?;
     match spec.key(row)? {
         Some(key) => Ok(key),
         None => unreachable!(),
