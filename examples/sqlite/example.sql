@@ -1,4 +1,4 @@
-.load ./sfbuild
+.load ./sfbuild_sqlite
 CREATE VIRTUAL TABLE city USING sfbuild(id int, name text, people int, capital flag);
 INSERT INTO city VALUES (1, 'Kyoto', 1460000, 0), (2, 'Lyon', 520000, 0), (3, 'Lima', 10100000, 1), (4, 'Oslo', 710000, 1);
 SELECT sfbuild_index('city', 'people desc, name');

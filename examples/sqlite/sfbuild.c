@@ -84,7 +84,7 @@ static sqlite3_module module = {
     .xRollbackTo = x_rollback_to,
 };
 
-int sqlite3_sfbuild_init(sqlite3 *db, char **error, const sqlite3_api_routines *api)
+int sqlite3_sfbuildsqlite_init(sqlite3 *db, char **error, const sqlite3_api_routines *api)
 {
     static const struct { const char *name; int arguments; void (*call)(sqlite3_context *, int, sqlite3_value **); } functions[] = {
         {"sfbuild_index", 2, f_index}, {"sfbuild_index", 3, f_index}, {"sfbuild_step", 2, f_step}, {"sfbuild_progress", 1, f_progress},
