@@ -135,10 +135,7 @@ void f_abandon(sqlite3_context *context, int argc, sqlite3_value **argv)
     (void)argc;
     if (s == NULL)
         return;
-    if (sfbuild_abandon(&s->table) == SFBUILD_DONE) {
+    if (sfbuild_abandon(&s->table) == SFBUILD_DONE)
         end_build(s, sqlite3_mprintf("given up: the index on %s", s->wanted.on));
-        sqlite3_free(s->wanted.on);
-        s->wanted.on = NULL;
-    }
     tell_progress(context, s);
 }

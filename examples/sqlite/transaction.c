@@ -83,15 +83,11 @@ void forget_changes(store *s)
     s->spoiled = false;
 }
 
-/* A transaction is open. A build that lets none begin waits only for those that were open: it decides first. */
+/* Sees to it that a transaction is open. */
 uint8_t open_transaction(store *s)
 {
     uint8_t told = settle(s);
-    if (told != SFBUILD_DONE || s->state == OPEN)
-        return told;
-    while ((told = sfbuild_begin(&s->table, &s->txn)) == SFBUILD_FENCED && do_piece(s))
-        ;
-    if (told == SFBUILD_FENCED)
+    if (told == SFBUILD_DONE && s->state == NONE)
         told = sfbuild_begin(&s->table, &s->txn);
     if (told == SFBUILD_DONE)
         s->state = OPEN;
