@@ -59,7 +59,7 @@ enum {
     SFBUILD_TABLE_FULL = 20,    /* no page takes the row, and the table may have no more */
     SFBUILD_NO_SUCH_ROW = 21,   /* no row stands there */
     SFBUILD_ROW_HELD = 22,      /* another open transaction wrote it */
-    SFBUILD_PAGE_FULL = 23,     /* the row's page has no room for a row that is longer than it ever was */
+    SFBUILD_PAGE_FULL = 23,     /* the row's page has no room for the longer row */
     SFBUILD_NO_SUCH_TXN = 24,   /* no such transaction is open */
     SFBUILD_TOO_MANY_TXNS = 25, /* 64 are open */
     SFBUILD_TXN_ENDING = 26,    /* the transaction is being undone */
