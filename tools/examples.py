@@ -14,6 +14,12 @@ SCRIPTS = {
     "unique_refused": 1,
     "while_in_use": 0,
 }
+# Callers of the library for C programs, which tools/callers and tools/sqlite-example try: the files of each folder.
+CALLERS = {
+    "c": ["caller.c", "caller.out", "first.c", "first.out"],
+    "rust": ["caller.out", "caller.rs"],
+    "sqlite": ["README.md", "building.c", "example.out", "example.sql", "functions.c", "reading.c", "sfbuild.c", "table.h", "tables.c", "transaction.c", "writing.c"],
+}
 INDEX_WORDS = ["--columns", "id:int,city:text,people:int", "--on", "people:desc,city", "--on", "city", "--unique", "id", "--range", ".."]
 
 
@@ -34,5 +40,11 @@ def answer_of(name):
 def strangers(folder):
     """The files of a folder's examples/ that belong to none of them, and those of the examples that aren't there."""
     wanted = {f"examples/{name}" for name in asked()} | {answer_of(name) for name in asked()}
-    found = {f"examples/{name}" for name in os.listdir(f"{folder}/examples") if name != "__pycache__"}
+    wanted |= {f"examples/{of}/{name}" for of, names in CALLERS.items() for name in names}
+    found = {
+        os.path.relpath(f"{at}/{name}", folder)
+        for at, _, names in os.walk(f"{folder}/examples")
+        for name in names
+        if os.path.basename(at) != "__pycache__"
+    }
     return sorted(wanted ^ found)
