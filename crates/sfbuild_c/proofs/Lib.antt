@@ -1,1 +1,2 @@
+mod Answering
 pub mod Apart

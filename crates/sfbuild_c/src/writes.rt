@@ -1,8 +1,10 @@
 //! Transactions, and what they write.
 ghost use Rattle.std.specs.Prelude.{◌≡◌, ℕ};
+ghost use Rattle.keybytes.specs.declared.rid.Rid.{Rid};
 ghost use Rattle.build_events.specs.declared.event.Event.{Event};
 ghost use Rattle.build_events.specs.declared.reply.Reply.{Reply};
-ghost use Rattle.sfbuild_c.specs.Answers.{Answered};
+ghost use Rattle.sfbuild_c.specs.Answers.{Answered, WithRow};
+ghost use Rattle.sfbuild_c.specs.Places.{rid_of};
 
 use crate::place::Place;
 use crate::session::Session;
@@ -34,7 +36,10 @@ pub extern "C" fn sfbuild_insert(
     txn: u64,
     row: &[u8],
     at: &mut Place,
-) -> u8 {
+) -> u8
+    ensures { WithRow row.now (λ cells status old new. (number : ℕ) × Answered (Event.Insert txn cells) (Reply.Written number (rid_of at.new)) status old new)
+        result session.old session.new }
+{
     let row = match session.read_row(alloc, row) {
         Ok(row) => row,
         Err(status) => return status,
@@ -58,7 +63,10 @@ pub extern "C" fn sfbuild_update(
     txn: u64,
     at: Place,
     row: &[u8],
-) -> u8 {
+) -> u8
+    ensures { WithRow row.now (λ cells status old new. (number : ℕ) × (rid : Rid) × Answered (Event.Update txn (rid_of at) cells) (Reply.Written number rid) status old new)
+        result session.old session.new }
+{
     let row = match session.read_row(alloc, row) {
         Ok(row) => row,
         Err(status) => return status,
@@ -74,7 +82,9 @@ pub extern "C" fn sfbuild_update(
 
 /// Deletes the row that stands there.
 #[unsafe(no_mangle)]
-pub extern "C" fn sfbuild_delete(alloc: Global, session: &mut Session, txn: u64, at: Place) -> u8 {
+pub extern "C" fn sfbuild_delete(alloc: Global, session: &mut Session, txn: u64, at: Place) -> u8
+    ensures { (number : ℕ) × (rid : Rid) × Answered (Event.Delete txn (rid_of at)) (Reply.Written number rid) result session.old session.new }
+{
     let rid = at.rid();
     match session.step(alloc, Event::Delete { txn, rid }) {
         Some(Reply::Written { .. }) => DONE,

@@ -1,0 +1,25 @@
+-- A call answers what the step of the core says.
+use Rattle.std.proofs.Common.{◌≡◌, ℕ, refl, sym, ap, ◌∙◌, inl, inr}
+use Rattle.keybytes.specs.Faults.{number_of}
+use Rattle.keybytes.specs.declared.fault.Fault.{Fault}
+use Rattle.build_events.specs.declared.event.Event.{Event}
+use Rattle.build_events.specs.declared.reply.Reply.{Reply}
+use Rattle.build_events.specs.declared.reply.Reply.TheVariants.{Refused}
+use Rattle.embedding.specs.KeptTables.{KeptValue}
+use Rattle.sfbuild_c.specs.Answers.{Answered, OnTable, Steps}
+use Rattle.sfbuild_c.specs.Causes.{cause_of}
+use Rattle.sfbuild_c.specs.declared.session.Session.{Session}
+
+pub answered_done : (event : Event) (reply : Reply) (old new : Session) → OnTable (Steps event reply) old new → Answered event reply 0 old new
+answered_done event reply old new on = inl (on.0, on.1, on.2, on.3, (refl, on.4))
+
+pub answered_refused :
+    (event : Event) (reply : Reply) (fault : Fault) (status : ℕ) (old mid new : Session) → OnTable (Steps event (Refused fault)) old mid
+    → status ≡ number_of fault → new ≡ record mid { cause = cause_of fault } → Answered event reply status old new
+answered_refused event reply fault status old mid new on is told =
+    inr (inr (fault, (is, ap (λ (s : Session). s.cause) told), (on.0, on.1, on.2, ap (λ (s : Session). s.held.table) told ∙ on.3, on.4)))
+
+-- the table is the same before, so what becomes of it is told from there
+pub from_same :
+    (Does : KeptValue → KeptValue → Type 0) (old mid new : Session) → mid.held.table ≡ old.held.table → OnTable Does mid new → OnTable Does old new
+from_same Does old mid new same on = (on.0, on.1, sym same ∙ on.2, on.3, on.4)
