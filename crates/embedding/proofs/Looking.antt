@@ -1,5 +1,5 @@
 -- The pairs of an index from a pair on.
-use Rattle.std.proofs.Common.{◌≡◌, ℕ, Bool, true, false, if◌then◌else◌, List, [], ◌∷◌, Option, Some, None, refl, ap, sym, ◌∙◌}
+use Rattle.std.proofs.Common.{◌≡◌, Bool, true, false, if◌then◌else◌, List, [], ◌∷◌, Some, None, ap, ◌∙◌}
 use Rattle.std.specs.List.{slice_get}
 use Rattle.keybytes.specs.declared.pair.Pair.{Pair}
 use Rattle.btree.specs.From.{from}

@@ -1,5 +1,5 @@
 -- Events of a build's work, one after another.
-use Rattle.std.proofs.Common.{◌≡◌, ℕ, List, [], ◌∷◌, ◌++◌, Result, Ok, Err, IfErr, OnOk, refl, subst, inl, inr}
+use Rattle.std.proofs.Common.{ℕ, List, [], ◌∷◌, ◌++◌, Result, Ok, Err, IfErr, OnOk, refl, subst, inr}
 use Rattle.std.proofs.lemmas.List.Elements.{All-nil, All-append, All-push}
 use Rattle.keybytes.specs.declared.fault.Fault.{Fault}
 use Rattle.build_events.specs.CoreState.{CoreState}
@@ -12,7 +12,7 @@ use Rattle.build_events.proofs.Runs.{run_more}
 use Rattle.leased_core.specs.Leasing.{KeepsBuild}
 use Rattle.embedding.specs.Decisions.{Decides, FailsToDecide}
 use Rattle.embedding.specs.KeptTables.{DecidedValue}
-use Rattle.embedding.specs.Pieces.{FailsToAdvance, IsOfWork, StopsWork, WorksInVain, WorksOn, WorksToTheEnd}
+use Rattle.embedding.specs.Pieces.{FailsToAdvance, IsOfWork, StopsWork, WorksOn, WorksToTheEnd}
 
 -- work neither starts a build nor ends one
 pub keeps_build : (event : Event) → IsOfWork event → KeepsBuild event

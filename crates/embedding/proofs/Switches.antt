@@ -5,7 +5,7 @@ use Rattle.std.specs.List.{slice_get}
 use Rattle.keybytes.specs.Keys.{KeySpecValue, IsKeyOf}
 use Rattle.keybytes.specs.declared.rid.Rid.{Rid}
 use Rattle.heap_log.specs.declared.outcome.Outcome.{Outcome}
-use Rattle.heap_log.specs.declared.outcome.Outcome.TheVariants.{Ready, Shared}
+use Rattle.heap_log.specs.declared.outcome.Outcome.TheVariants.{Shared}
 use Rattle.build_events.specs.BuildSteps.{OnBuild}
 use Rattle.build_events.specs.CoreState.{BuildState}
 use Rattle.build_events.specs.Verdicts.{HasKeyOf, HaveSharedKeys}

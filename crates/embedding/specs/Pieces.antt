@@ -1,5 +1,5 @@
 -- What a piece of a build does.
-use Rattle.std.specs.Prelude.{◌≡◌, ◌⊎◌, ℕ, List, All}
+use Rattle.std.specs.Prelude.{◌⊎◌, ℕ, List, All}
 use Rattle.keybytes.specs.declared.fault.Fault.{Fault}
 use Rattle.build_events.specs.CoreState.{CoreState}
 use Rattle.build_events.specs.Steps.{Run, Step}

@@ -1,4 +1,4 @@
-use Rattle.std.proofs.Common.{◌≡◌, subst, sym}
+use Rattle.std.proofs.Common.{subst, sym}
 use Rattle.std.specs.Prelude.{IfErr, IfOk, IsSomeAnd}
 use Rattle.build_events.specs.CoreState.{CoreState}
 use Rattle.embedding.specs.Decisions.{Decides, FailsToDecide}

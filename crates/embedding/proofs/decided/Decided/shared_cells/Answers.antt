@@ -1,4 +1,4 @@
-use Rattle.std.proofs.Common.{◌≡◌, List, Option, Some, ap, sym, subst, ◌∙◌}
+use Rattle.std.proofs.Common.{Option, Some, ap, sym, subst, ◌∙◌}
 use Rattle.std.specs.List.{slice_get}
 use Rattle.keybytes.specs.Keys.{KeySpecValue}
 use Rattle.heap_log.specs.declared.outcome.Outcome.{Outcome}
