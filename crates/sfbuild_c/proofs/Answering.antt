@@ -1,11 +1,13 @@
 -- A call answers what the step of the core says.
-use Rattle.std.proofs.Common.{◌≡◌, ℕ, refl, sym, ap, ◌∙◌, inl, inr}
+use Rattle.std.proofs.Common.{◌≡◌, ℕ, Option, None, Some, IsSomeAnd, refl, sym, ap, ◌∙◌, inl, inr}
 use Rattle.keybytes.specs.Faults.{number_of}
 use Rattle.keybytes.specs.declared.fault.Fault.{Fault}
 use Rattle.build_events.specs.declared.event.Event.{Event}
 use Rattle.build_events.specs.declared.reply.Reply.{Reply}
 use Rattle.build_events.specs.declared.reply.Reply.TheVariants.{Refused}
-use Rattle.embedding.specs.KeptTables.{KeptValue}
+use Rattle.build_events.specs.CoreState.{CoreState}
+use Rattle.embedding.specs.Decisions.{Decides}
+use Rattle.embedding.specs.KeptTables.{DecidedValue, KeptValue}
 use Rattle.sfbuild_c.specs.Answers.{Answered, OnTable, Steps}
 use Rattle.sfbuild_c.specs.Causes.{cause_of}
 use Rattle.sfbuild_c.specs.declared.session.Session.{Session}
@@ -23,3 +25,10 @@ answered_refused event reply fault status old mid new on is told =
 pub from_same :
     (Does : KeptValue → KeptValue → Type 0) (old mid new : Session) → mid.held.table ≡ old.held.table → OnTable Does mid new → OnTable Does old new
 from_same Does old mid new same on = (on.0, on.1, sym same ∙ on.2, on.3, on.4)
+
+-- a switch decides by some record
+pub some_decides :
+    (told : Option DecidedValue) (number : ℕ) (old new : CoreState) → IsSomeAnd told (λ decided. Decides old number decided new)
+    → IsSomeAnd told (λ decided. (record_number : ℕ) × Decides old record_number decided new)
+some_decides None number old new decides = absurd decides
+some_decides (Some decided) number old new decides = (number, decides)

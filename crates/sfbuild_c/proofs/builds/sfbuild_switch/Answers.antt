@@ -1,10 +1,15 @@
-use Rattle.std.proofs.Common.{rules, ◌≡◌, ℕ, ◌+◌, ◌-◌, ◌*◌, ◌<◌, ◌≤◌, length, ◌/◌, ◌%◌, Bool, true, false, nat_eq, nat_lt, List, [], ◌∷◌, ◌++◌, slice_index_or, slice_set, bit_and, bit_or, Fits, w8, w32, w64, Bor, MutBor}
-use Rattle.build_events.specs.declared.event.Event.{Event}
-use Rattle.build_events.specs.declared.reply.Reply.{Reply}
-use Rattle.sfbuild_c.specs.Answers.{Answered, Answers, Steps}
-use Rattle.sfbuild_c.specs.Building.{Advances, FailsToGoOn, FailsToSwitch, IsGivenUp, SwitchesTo}
+use Rattle.std.proofs.Common.{◌≡◌, length, IsSomeAnd, refl, ap, subst, ◌∙◌, inl}
+use Rattle.embedding.specs.Decisions.{Decides, verdicts_in}
+use Rattle.embedding.specs.KeptTables.{KeptValue}
+use Rattle.sfbuild_c.proofs.Answering.{some_decides}
 use Rattle.sfbuild_c.proofs.builds.sfbuild_switch.Goals as goal
 
--- src/builds.rt:231:1
 pub returns-in-Ok : goal.returns-in-Ok
-returns-in-Ok c = ?
+returns-in-Ok c =
+    let before = c.in-Some.table.value in
+    let after = c.switch-switched.new.self in
+    let decides = subst (λ (kept : KeptValue). IsSomeAnd after.decided (λ decided. Decides kept.core c.in-Ok._number decided after.core)) c.deref_mut.ensures.value
+    c.in-Ok.ensures.decided in
+    let count = c.decided-decided.ensures ∙ ap (λ (kept : KeptValue). length (verdicts_in kept.decided)) c.deref.ensures in
+    inl (before, after, c.in-Some.ensures.table, c.put.ensures.table,
+    (refl, (some_decides after.decided c.in-Ok._number before.core after.core decides, count)))
