@@ -6,10 +6,11 @@
  * Threads that share a table take a mutex of the program's around each call on it. No call waits, starts a thread or
  * touches a file. Memory comes from malloc, realloc and free.
  *
- * Proved, for whatever list of calls: no call reads or writes beyond what is described here, each call returns, it
- * does what the definition of its step says, and an index that becomes ready has one pair, key and address, of each
- * row that stands, and no other. (docs/PROMISES.md has it in full, and docs/CALLING.md.) What the program has to
- * keep, since nothing can check it:
+ * Proved, for whatever list of calls: no call reads or writes beyond what is described here, each call returns, and an
+ * index that becomes ready has one pair, key and address, of each row that stands, and no other. Each call also does
+ * and answers what the definition of its step says; of sfbuild_open, _get, _start, _verdict, _key and _next that is
+ * proved of what lies below them, and tested of the calls. (docs/C.md, docs/PROMISES.md.) What the program has to keep,
+ * since nothing can check it:
  *
  * - Pointers aren't null, point to what they are said to, and not into one another. Lengths are true. Also for no
  *   bytes the pointer isn't null.
