@@ -1,5 +1,5 @@
 -- The kinds of a table's columns, as C names them.
-use Rattle.std.specs.Prelude.{◌≡◌, ◌⊎◌, ℕ, List, Option, Some, None, map}
+use Rattle.std.specs.Prelude.{◌≡◌, ◌⊎◌, ℕ, List, None, map}
 use Rattle.keybytes.specs.Schemas.{columns_refusal}
 use Rattle.keybytes.specs.declared.fault.Fault.{Fault}
 use Rattle.keybytes.specs.declared.fault.Fault.TheVariants.{BadColumn, Memory}

@@ -1,10 +1,9 @@
 -- What is read of a table.
-use Rattle.std.specs.Prelude.{◌≡◌, ◌⊎◌, ℕ, List, Some, None, length}
+use Rattle.std.specs.Prelude.{◌≡◌, ℕ, List, Some, length}
 use Rattle.keybytes.specs.Faults.{RefusedFor}
 use Rattle.keybytes.specs.Rows.{row_bytes}
 use Rattle.keybytes.specs.declared.cell.Cell.{Cell}
 use Rattle.keybytes.specs.declared.fault.Fault.{Fault}
-use Rattle.keybytes.specs.declared.fault.Fault.TheVariants.{Memory}
 use Rattle.keybytes.specs.declared.rid.Rid.{Rid}
 use Rattle.heap_log.specs.Standing.{live_at}
 use Rattle.heap_table.specs.HeapState.{row_missing}

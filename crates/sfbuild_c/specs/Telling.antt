@@ -1,5 +1,5 @@
 -- What a build tells: how far it is, and what its switch decided.
-use Rattle.std.specs.Prelude.{◌≡◌, ◌⊎◌, ℕ, true, false, List, [], Option, Some, None, length, min, is_some, count_by, slice_get}
+use Rattle.std.specs.Prelude.{◌≡◌, ◌⊎◌, ℕ, true, false, List, [], Some, None, min, is_some, count_by, slice_get}
 use Rattle.keybytes.specs.Rows.{row_bytes}
 use Rattle.keybytes.specs.declared.cell.Cell.{Cell}
 use Rattle.keybytes.specs.declared.fault.Fault.{Fault}

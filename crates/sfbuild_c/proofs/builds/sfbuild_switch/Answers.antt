@@ -1,4 +1,4 @@
-use Rattle.std.proofs.Common.{◌≡◌, length, IsSomeAnd, refl, ap, subst, ◌∙◌, inl}
+use Rattle.std.proofs.Common.{length, IsSomeAnd, refl, ap, subst, ◌∙◌, inl}
 use Rattle.embedding.specs.Decisions.{Decides, verdicts_in}
 use Rattle.embedding.specs.KeptTables.{KeptValue}
 use Rattle.sfbuild_c.proofs.Answering.{some_decides}

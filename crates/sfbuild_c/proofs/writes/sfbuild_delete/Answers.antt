@@ -1,4 +1,4 @@
-use Rattle.std.proofs.Common.{◌≡◌, refl, subst, inl, inr}
+use Rattle.std.proofs.Common.{refl, subst, inl, inr}
 use Rattle.keybytes.specs.declared.rid.Rid.{Rid}
 use Rattle.build_events.specs.declared.event.Event.TheVariants.{Delete}
 use Rattle.build_events.specs.declared.reply.Reply.{Reply}

@@ -1,5 +1,5 @@
 -- `into_bare` finds again what the pointer is to.
-use Rattle.std.proofs.Common.{◌≡◌, List, [], ◌∷◌, ◌++◌, refl, sym}
+use Rattle.std.proofs.Common.{◌≡◌, List, [], ◌∷◌, ◌++◌, refl}
 use mathlib.Core.Bool.{false≢true}
 use mir.Val.{Val}
 use seplogic.Ra.Ura.{Ura}
@@ -14,7 +14,7 @@ use types.Part.{agg, sub, whole}
 use contract.Monad.{fact, fact_i}
 use contract.Running.{tables}
 use denote.Exit.{yes}
-use denote.RattleType.{RattleType, owns}
+use denote.RattleType.{owns}
 use denote.RawPtr.{Ptr}
 use denote.Signature.{types_at, plain}
 use denote.Steps.{nothing, heard}
@@ -29,7 +29,6 @@ use Rattle.std.specs.contracts.impls.GlobalAllocator.TheImpl.{ghosts}
 use Rattle.embedding.specs.contracts.kept.Kept.{the_row as Kept}
 use Rattle.sfbuild_c.specs.Owned.{table_owns}
 use Rattle.sfbuild_c.proofs.Apart.{ptr_fits, word, word_fits, pair_out, pair_in}
-use Rattle.sfbuild_c.specs.contracts.bare.Bare as bare
 use Rattle.sfbuild_c.specs.contracts.held.Held as held
 use Rattle.sfbuild_c.specs.contracts.held.Held.into_bare as f
 use Rattle.sfbuild_c.specs.contracts.held.Held.into_bare.Key.{name as key}
