@@ -166,8 +166,7 @@ pub extern "C" fn sfbuild_start(
     ranges: usize,
     quota: usize,
     pages: &mut u32,
-) -> u8
-{
+) -> u8 {
     let Some(mut table) = session.take(alloc) else {
         return CLOSED;
     };
@@ -190,8 +189,7 @@ fn start(
     workers: usize,
     ranges: usize,
     quota: usize,
-) -> Result<u32, Fault>
-{
+) -> Result<u32, Fault> {
     let specs = read_indexes(alloc, indexes, &table.schema())?;
     let plan = Plan {
         specs,

@@ -40,8 +40,7 @@ pub extern "C" fn sfbuild_verdict(
     verdict: &mut VerdictOf,
     cells: &mut [u8],
     length: &mut usize,
-) -> u8
-{
+) -> u8 {
     let Some(table) = session.take(alloc) else {
         return CLOSED;
     };
@@ -60,8 +59,7 @@ pub extern "C" fn sfbuild_verdict(
 }
 
 /// What was decided of an index, and the bytes of the cells of the key that rows share.
-fn told_of(table: &Kept, alloc: Global, index: usize) -> Result<(VerdictOf, Vec<u8>), Fault>
-{
+fn told_of(table: &Kept, alloc: Global, index: usize) -> Result<(VerdictOf, Vec<u8>), Fault> {
     let bytes = match table.shared_cells(index)? {
         Some(cells) => cell_bytes(alloc, cells)?,
         None => Vec::new(alloc),

@@ -11,5 +11,10 @@ returns-in-Ok c =
     let decides = subst (λ (kept : KeptValue). IsSomeAnd after.decided (λ decided. Decides kept.core c.in-Ok._number decided after.core)) c.deref_mut.ensures.value
     c.in-Ok.ensures.decided in
     let count = c.decided-decided.ensures ∙ ap (λ (kept : KeptValue). length (verdicts_in kept.decided)) c.deref.ensures in
-    inl (before, after, c.in-Some.ensures.table, c.put.ensures.table,
-    (refl, (some_decides after.decided c.in-Ok._number before.core after.core decides, count)))
+    inl (
+      before,
+      after,
+      c.in-Some.ensures.table,
+      c.put.ensures.table,
+      (refl, (some_decides after.decided c.in-Ok._number before.core after.core decides, count)),
+    )

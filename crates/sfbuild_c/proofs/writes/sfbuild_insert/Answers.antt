@@ -17,14 +17,23 @@ returns-in-Some-Written c =
     let done = from_same (Steps event c.in-Some-Written.field-0) old c.read_row.new.self new c.in-Ok.ensures.1 c.in-Some-Written.ensures in
     let told = subst (λ (reply : Reply). Answered event reply 0 old new) c.in-Some-Written.field-0-is
     (answered_done event c.in-Some-Written.field-0 old new done) in
-    inr (c.in-Ok.row, c.in-Ok.ensures.0,
-    (number, subst (λ (rid : Rid). Answered event (Written number rid) 0 old new) (sym (ap rid_of c.of.ensures)) told))
+    inr (
+      c.in-Ok.row,
+      c.in-Ok.ensures.0,
+      (number, subst (λ (rid : Rid). Answered event (Written number rid) 0 old new) (sym (ap rid_of c.of.ensures)) told),
+    )
 
 pub returns-in-Some-Refused : goal.returns-in-Some-Refused
 returns-in-Some-Refused c =
     let event = Insert c.args.txn c.in-Ok.row in
     let old = c.args.session.now in
     let refused = subst (λ (told : Reply). OnTable (Steps event told) c.read_row.new.self c.step.new.self) c.in-Some-Refused.field-0-is c.in-Some-Refused.ensures in
-    inr (c.in-Ok.row, c.in-Ok.ensures.0,
-    (0, answered_refused event _ c.in-Some-Refused.fault c.tell.result old c.step.new.self c.tell.new.self
-    (from_same _ old c.read_row.new.self c.step.new.self c.in-Ok.ensures.1 refused) c.tell.ensures.number c.tell.ensures.cause))
+    inr (
+      c.in-Ok.row,
+      c.in-Ok.ensures.0,
+      (
+        0,
+        answered_refused event _ c.in-Some-Refused.fault c.tell.result old c.step.new.self c.tell.new.self
+            (from_same _ old c.read_row.new.self c.step.new.self c.in-Ok.ensures.1 refused) c.tell.ensures.number c.tell.ensures.cause,
+      ),
+    )

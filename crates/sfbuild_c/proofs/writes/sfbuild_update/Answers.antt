@@ -17,8 +17,11 @@ returns-in-Some-Written c =
     let done = from_same (Steps event c.in-Some-Written.field-0) old c.read_row.new.self new c.in-Ok.ensures.1 c.in-Some-Written.ensures in
     let told = subst (λ (reply : Reply). Answered event reply 0 old new) c.in-Some-Written.field-0-is
     (answered_done event c.in-Some-Written.field-0 old new done) in
-    inr (c.in-Ok.row, c.in-Ok.ensures.0,
-    (number, rid, subst (λ (at : Rid). Answered (Update c.args.txn at c.in-Ok.row) (Written number rid) 0 old new) c.rid-rid.ensures told))
+    inr (
+      c.in-Ok.row,
+      c.in-Ok.ensures.0,
+      (number, rid, subst (λ (at : Rid). Answered (Update c.args.txn at c.in-Ok.row) (Written number rid) 0 old new) c.rid-rid.ensures told),
+    )
 
 pub returns-in-Some-Refused : goal.returns-in-Some-Refused
 returns-in-Some-Refused c =
@@ -29,5 +32,8 @@ returns-in-Some-Refused c =
     let refused = subst (λ (told : Reply). OnTable (Steps event told) c.read_row.new.self c.step.new.self) c.in-Some-Refused.field-0-is c.in-Some-Refused.ensures in
     let told = answered_refused event reply c.in-Some-Refused.fault c.tell.result old c.step.new.self new
     (from_same _ old c.read_row.new.self c.step.new.self c.in-Ok.ensures.1 refused) c.tell.ensures.number c.tell.ensures.cause in
-    inr (c.in-Ok.row, c.in-Ok.ensures.0,
-    (0, c.rid-rid.result, subst (λ (at : Rid). Answered (Update c.args.txn at c.in-Ok.row) reply c.tell.result old new) c.rid-rid.ensures told))
+    inr (
+      c.in-Ok.row,
+      c.in-Ok.ensures.0,
+      (0, c.rid-rid.result, subst (λ (at : Rid). Answered (Update c.args.txn at c.in-Ok.row) reply c.tell.result old new) c.rid-rid.ensures told),
+    )
