@@ -46,7 +46,8 @@ extern "C" {
 /* What a call answers. From 10 on it is the number of a refusal: the first cause that holds, in the order in which
  * the call lists them. A refused call changes nothing but `cause`, and doesn't write through its other pointers,
  * except where its refusal says otherwise. Each call of a table that isn't open answers SFBUILD_CLOSED, and each call
- * that takes memory SFBUILD_MEMORY where there is none, and nothing else refuses it. */
+ * that takes memory SFBUILD_MEMORY where there is none, and nothing else refuses it; but sfbuild_open may answer it
+ * before BAD_COUNT, and sfbuild_start before BUILD_RUNNING, since they take memory for the bytes that they read. */
 enum {
     SFBUILD_DONE = 0,
     SFBUILD_CLOSED = 1,         /* the table isn't open */
