@@ -64,7 +64,8 @@ pub extern "C" fn sfbuild_update(
     at: Place,
     row: &[u8],
 ) -> u8
-    ensures { WithRow row.now (λ cells status old new. (number : ℕ) × (rid : Rid) × Answered (Event.Update txn (rid_of at) cells) (Reply.Written number rid) status old new)
+    ensures { WithRow row.now
+        (λ cells status old new. (number : ℕ) × (rid : Rid) × Answered (Event.Update txn (rid_of at) cells) (Reply.Written number rid) status old new)
         result session.old session.new }
 {
     let row = match session.read_row(alloc, row) {
