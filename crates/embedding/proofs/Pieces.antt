@@ -1,9 +1,9 @@
 -- Events of a build's work, one after another.
-use Rattle.std.proofs.Common.{ℕ, List, [], ◌∷◌, ◌++◌, Result, Ok, Err, IfErr, OnOk, refl, subst, inr}
+use Rattle.std.proofs.Common.{◌≡◌, ◌≢◌, ℕ, List, [], ◌∷◌, ◌++◌, Result, Ok, Err, IfErr, OnOk, refl, sym, subst, inl, inr}
 use Rattle.std.proofs.lemmas.List.Elements.{All-nil, All-append, All-push}
 use Rattle.keybytes.specs.declared.fault.Fault.{Fault}
 use Rattle.build_events.specs.CoreState.{CoreState}
-use Rattle.build_events.specs.Steps.{Run, Step}
+use Rattle.build_events.specs.Steps.{Does, IsWant, IsWorkWant, Run, Step}
 use Rattle.build_events.specs.declared.event.Event.{Event}
 use Rattle.build_events.specs.declared.event.Event.TheVariants.{Begin, Insert, Update, Delete, Undo, Commit, Start, Scan, Digest, Seal, Load, Feed, Apply, Fence, Switch, Abandon}
 use Rattle.build_events.specs.declared.reply.Reply.{Reply}
@@ -12,7 +12,7 @@ use Rattle.build_events.proofs.Runs.{run_more}
 use Rattle.leased_core.specs.Leasing.{KeepsBuild}
 use Rattle.embedding.specs.Decisions.{Decides, FailsToDecide}
 use Rattle.embedding.specs.KeptTables.{DecidedValue}
-use Rattle.embedding.specs.Pieces.{FailsToAdvance, IsOfWork, StopsWork, WorksOn, WorksToTheEnd}
+use Rattle.embedding.specs.Pieces.{FailsToAdvance, HasWorked, IsDone, IsOfWork, StopsWork, WorksOn, WorksToTheEnd}
 
 -- work neither starts a build nor ends one
 pub keeps_build : (event : Event) → IsOfWork event → KeepsBuild event
@@ -35,20 +35,21 @@ keeps_build Abandon work = absurd work
 
 -- nothing has happened
 pub no_work : (s : CoreState) → WorksOn s s
-no_work s = record { events = []; of_work = All-nil IsOfWork; replies = []; run = refl }
+no_work s = record { events = []; of_work = All-nil IsOfWork; replies = []; done = All-nil IsDone; run = refl }
 
 -- one event more
 pub works_more :
-    (old mid new : CoreState) (event : Event) (reply : Reply) → WorksOn old mid → IsOfWork event → Step mid event reply new → WorksOn old new
-works_more old mid new event reply works of_work step = record {
+    (old mid new : CoreState) (event : Event) (reply : Reply) → WorksOn old mid → IsOfWork event → IsDone reply → Step mid event reply new → WorksOn old new
+works_more old mid new event reply works of_work done step = record {
   events = works.events ++ event ∷ [];
   of_work = All-push IsOfWork works.events event works.of_work of_work;
   replies = works.replies ++ reply ∷ [];
+  done = All-push IsDone works.replies reply works.done done;
   run = run_more (λ s event. Unit {0}) old mid new works.events event works.replies reply works.run step (λ _ _. tt);
 }
 
-pub works_once : (old new : CoreState) (event : Event) (reply : Reply) → IsOfWork event → Step old event reply new → WorksOn old new
-works_once old new event reply of_work step = works_more old old new event reply (no_work old) of_work step
+pub works_once : (old new : CoreState) (event : Event) (reply : Reply) → IsOfWork event → IsDone reply → Step old event reply new → WorksOn old new
+works_once old new event reply of_work done step = works_more old old new event reply (no_work old) of_work done step
 
 run_on :
     (MissedPage : CoreState → Event → Type 0) (s mid new : CoreState) (events more : List Event) (replies told : List Reply)
@@ -65,8 +66,31 @@ works_further old mid new works more = record {
   events = works.events ++ more.events;
   of_work = All-append IsOfWork works.events more.events works.of_work more.of_work;
   replies = works.replies ++ more.replies;
+  done = All-append IsDone works.replies more.replies works.done more.done;
   run = run_on (λ s event. Unit {0}) old mid new works.events more.events works.replies more.replies works.run more.run;
 }
+
+-- one event and no more
+pub worked_once : (old new : CoreState) (event : Event) (reply : Reply) → IsOfWork event → IsDone reply → Step old event reply new → HasWorked old new
+unfolding works_once works_more no_work
+worked_once old new event reply of_work done step =
+    (works_once old new event reply of_work done step, λ none. let one : event ∷ [] ≡ [] = none in cc)
+
+some_first : (events more : List Event) → events ≢ [] → events ++ more ≢ []
+some_first [] more some none = some refl
+some_first (event ∷ events) more some none = cc
+
+some_behind : (events more : List Event) → more ≢ [] → events ++ more ≢ []
+some_behind [] more some none = some none
+some_behind (event ∷ events) more some none = cc
+
+pub worked_then : (old mid new : CoreState) → HasWorked old mid → WorksOn mid new → HasWorked old new
+unfolding works_further
+worked_then old mid new worked more = (works_further old mid new worked.0 more, some_first worked.0.events more.events worked.1)
+
+pub then_worked : (old mid new : CoreState) → WorksOn old mid → HasWorked mid new → HasWorked old new
+unfolding works_further
+then_worked old mid new works worked = (works_further old mid new works worked.0, some_behind works.events worked.0.events worked.1)
 
 pub stops_once : (old new : CoreState) (event : Event) (fault : Fault) → IsOfWork event → Step old event (Refused fault) new → StopsWork old fault new
 stops_once old new event fault of_work step = record { mid = old; works = no_work old; event = event; of_work = of_work; refused = step }
@@ -80,9 +104,54 @@ stops_further old mid new fault works stops = record {
   refused = stops.refused;
 }
 
--- an event that is refused has happened too
-pub stopped_works : (old new : CoreState) (fault : Fault) → StopsWork old fault new → WorksOn old new
-stopped_works old new fault stops = works_more old stops.mid new stops.event (Refused fault) stops.works stops.of_work stops.refused
+-- an event of work that wants nothing and is refused changes nothing
+unwanted : (event : Event) (fault : Fault) → IsOfWork event → (IsWorkWant fault → ⊥) → IsWant event fault → ⊥
+unwanted Begin fault of_work none want = of_work
+unwanted (Insert txn row) fault of_work none want = of_work
+unwanted (Update txn rid row) fault of_work none want = of_work
+unwanted (Delete txn rid) fault of_work none want = of_work
+unwanted (Undo txn) fault of_work none want = of_work
+unwanted (Commit txn) fault of_work none want = of_work
+unwanted (Start plan) fault of_work none want = of_work
+unwanted (Scan range worker) fault of_work none want = none (inr want)
+unwanted (Digest worker) fault of_work none want = none want
+unwanted (Seal worker) fault of_work none want = none want
+unwanted (Load index) fault of_work none want = none (inr want)
+unwanted (Feed index most) fault of_work none want = want
+unwanted (Apply index most) fault of_work none want = none (inr want)
+unwanted Fence fault of_work none want = of_work
+unwanted Switch fault of_work none want = of_work
+unwanted Abandon fault of_work none want = of_work
+
+done_not_refused : (s : CoreState) (event : Event) (fault : Fault) (new : CoreState) → IsOfWork event → Does s event (Refused fault) new → ⊥
+done_not_refused s Begin fault new of_work does = of_work
+done_not_refused s (Insert txn row) fault new of_work does = of_work
+done_not_refused s (Update txn rid row) fault new of_work does = of_work
+done_not_refused s (Delete txn rid) fault new of_work does = of_work
+done_not_refused s (Undo txn) fault new of_work does = of_work
+done_not_refused s (Commit txn) fault new of_work does = of_work
+done_not_refused s (Start plan) fault new of_work does = of_work
+done_not_refused s (Scan range worker) fault new of_work does = let is = does.1 in cc
+done_not_refused s (Digest worker) fault new of_work does = let is = does.1 in cc
+done_not_refused s (Seal worker) fault new of_work does = let is = does.1 in cc
+done_not_refused s (Load index) fault new of_work does = let is = does.1 in cc
+done_not_refused s (Feed index most) fault new of_work does = let is = does.1 in cc
+done_not_refused s (Apply index most) fault new of_work does = let is = does.1 in cc
+done_not_refused s Fence fault new of_work does = of_work
+done_not_refused s Switch fault new of_work does = of_work
+done_not_refused s Abandon fault new of_work does = of_work
+
+refused_unchanged :
+    (s new : CoreState) (event : Event) (fault : Fault) → IsOfWork event → (IsWorkWant fault → ⊥) → Step s event (Refused fault) new → new ≡ s
+refused_unchanged s new event fault of_work none (inl (told, is, inl (cause, same))) = same
+refused_unchanged s new event fault of_work none (inl (told, is, inr (cause, want, after))) =
+    absurd (unwanted event told of_work (subst (λ (f : Fault). IsWorkWant f → ⊥) (let both : Refused fault ≡ Refused told = is in cc) none) want)
+refused_unchanged s new event fault of_work none (inr (cause, does)) = absurd (done_not_refused s event fault new of_work does)
+
+-- so what was done before it was all
+pub works_before : (old new : CoreState) (fault : Fault) → (IsWorkWant fault → ⊥) → StopsWork old fault new → WorksOn old new
+works_before old new fault none stops =
+    subst (WorksOn old) (sym (refused_unchanged stops.mid new stops.event fault stops.of_work none stops.refused)) stops.works
 
 pub ends_work :
     (old mid new : CoreState) (number : ℕ) (decided : DecidedValue) → WorksOn old mid → Decides mid number decided new → WorksToTheEnd old decided new
@@ -91,11 +160,11 @@ ends_work old mid new number decided works decides = record { mid = mid; works =
 pub works_in_vain : (old mid new : CoreState) (fault : Fault) → WorksOn old mid → FailsToDecide mid fault new → FailsToAdvance old fault new
 works_in_vain old mid new fault works fails = inr (record { mid = mid; works = works; fails = fails })
 
--- the same of a call that works on, if it doesn't stop
-pub works_if_ok :
-    {T : Type 0} (told : Result T Fault) (old mid new : CoreState) → WorksOn old mid → OnOk told (WorksOn mid new) → OnOk told (WorksOn old new)
-works_if_ok (Ok x) old mid new works more = works_further old mid new works more
-works_if_ok (Err fault) old mid new works more = tt
+-- the same of a call that works, if it doesn't stop
+pub worked_if_ok :
+    {T : Type 0} (told : Result T Fault) (old mid new : CoreState) → WorksOn old mid → OnOk told (HasWorked mid new) → OnOk told (HasWorked old new)
+worked_if_ok (Ok x) old mid new works worked = then_worked old mid new works worked
+worked_if_ok (Err fault) old mid new works worked = tt
 
 pub stops_if_err :
     {T : Type 0} (told : Result T Fault) (old mid new : CoreState) → WorksOn old mid → IfErr told (λ fault. StopsWork mid fault new)

@@ -1,5 +1,5 @@
 -- What a switch decided, as it is kept and told afterwards.
-use Rattle.std.specs.Prelude.{◌≡◌, ◌⊎◌, ℕ, List, [], Option, Some, None}
+use Rattle.std.specs.Prelude.{◌≡◌, ◌⊎◌, ℕ, true, List, [], Option, Some, None, is_some}
 use Rattle.keybytes.specs.Keys.{KeySpecValue, HasKey}
 use Rattle.keybytes.specs.declared.cell.Cell.{Cell}
 use Rattle.keybytes.specs.declared.fault.Fault.{Fault}
@@ -19,9 +19,9 @@ abbrev pub Decides : CoreState → ℕ → DecidedValue → CoreState → Type 0
 Decides old number decided new =
     EndsBuild Switch (Switched number decided.verdicts) old new × OnBuild old.live.build (λ b. decided.specs ≡ b.specs)
 
--- a switch did not decide: there was no memory to keep what it decides, and nothing changed; or it was refused
+-- a switch did not decide: there was no memory to keep what the build that runs decides, and nothing changed; or it was refused
 abbrev pub FailsToDecide : CoreState → Fault → CoreState → Type 0
-FailsToDecide old fault new = ((fault ≡ Memory) × (new ≡ old)) ⊎ Step old Switch (Refused fault) new
+FailsToDecide old fault new = ((fault ≡ Memory) × (is_some old.live.build ≡ true) × (new ≡ old)) ⊎ Step old Switch (Refused fault) new
 
 -- what makes the keys of the indexes that were decided on
 abbrev pub specs_in : Option DecidedValue → List KeySpecValue
@@ -39,7 +39,7 @@ IsNotShared None = Unit {0}
 IsNotShared (Some (Ready number)) = Unit {0}
 IsNotShared (Some (Shared key first second)) = ⊥
 
--- these are the columns of the key that rows share, for which an index of that specification was refused
+-- these are the cells of the key that rows share, for which an index of that specification was refused
 abbrev pub AreSharedCells : Option KeySpecValue → Option Outcome → List Cell → Type 0
 AreSharedCells None verdict cells = ⊥
 AreSharedCells (Some spec) None cells = ⊥

@@ -25,21 +25,21 @@ keyed_by kinds columns = record { kinds = kinds; columns = columns; unique = fal
 abbrev pub first_columns : List Kind → ℕ → KeySpecValue → KeySpecValue
 first_columns kinds count spec = keyed_by kinds (take count spec.columns)
 
--- why no key is made of the first so many columns of an index: it has fewer, or is of other columns than the table
+-- why no key is made of the first so many columns of an index: none are asked for, it has fewer, or it is of other columns than the table
 abbrev pub spec_refusal : List Kind → ℕ → KeySpecValue → Option Fault
 spec_refusal kinds count spec =
     first_cause (cause_if (not (nat_le 1 count && nat_le count (length spec.columns))) BadCount)
     (cause_if (not (same_kinds spec.kinds kinds)) BadColumn)
 
--- if there is one
-abbrev pub columns_refusal : List Kind → ℕ → Option ReadyValue → Option Fault
-columns_refusal kinds count None = Some BadCount
-columns_refusal kinds count (Some index) = spec_refusal kinds count index.spec
+-- the same of an index that there may not be
+abbrev pub first_columns_refusal : List Kind → ℕ → Option ReadyValue → Option Fault
+first_columns_refusal kinds count None = Some BadCount
+first_columns_refusal kinds count (Some index) = spec_refusal kinds count index.spec
 
--- or of that row
+-- why no key is made of them for a row, of the index of that number
 abbrev pub key_refusal : LiveState → ℕ → ℕ → List Cell → Option Fault
 key_refusal live number count row =
-    first_cause (columns_refusal live.heap.schema count (slice_get live.ready number)) (shape_refusal live.heap.schema row)
+    first_cause (first_columns_refusal live.heap.schema count (slice_get live.ready number)) (shape_refusal live.heap.schema row)
 
 -- the key that the first so many columns of an index have of a row
 abbrev pub IsFirstKey : List Kind → ℕ → Option ReadyValue → List Cell → List ℕ → Type 0

@@ -1,5 +1,5 @@
 -- What a piece of a build does.
-use Rattle.std.specs.Prelude.{◌⊎◌, ℕ, List, All}
+use Rattle.std.specs.Prelude.{◌≡◌, ◌≢◌, ◌⊎◌, ℕ, List, [], All}
 use Rattle.keybytes.specs.declared.fault.Fault.{Fault}
 use Rattle.build_events.specs.CoreState.{CoreState}
 use Rattle.build_events.specs.Steps.{Run, Step}
@@ -29,14 +29,23 @@ IsOfWork Fence = ⊥
 IsOfWork Switch = ⊥
 IsOfWork Abandon = ⊥
 
--- some events of a build's work happen, one after another
+-- the reply tells of no refusal
+abbrev pub IsDone : Reply → Type 0
+IsDone reply = (fault : Fault) → reply ≡ Refused fault → ⊥
+
+-- some events of a build's work are done, one after another
 pub record WorksOn (old new : CoreState) : Type 0 where
   pub events : List Event
   pub of_work : All IsOfWork events
   pub replies : List Reply
+  pub done : All IsDone replies
   pub run : Run (λ s event. Unit {0}) old events replies new
 
--- they happen, and the one behind them is refused
+-- they are, and one at least
+abbrev pub HasWorked : CoreState → CoreState → Type 0
+HasWorked old new = (works : WorksOn old new) × (works.events ≢ [])
+
+-- they are done, and the one behind them is refused
 pub record StopsWork (old : CoreState) (fault : Fault) (new : CoreState) : Type 0 where
   pub mid : CoreState
   pub works : WorksOn old mid
@@ -44,14 +53,14 @@ pub record StopsWork (old : CoreState) (fault : Fault) (new : CoreState) : Type 
   pub of_work : IsOfWork event
   pub refused : Step mid event (Refused fault) new
 
--- they happen, and the switch behind them decides
+-- they are done, and the switch behind them decides
 pub record WorksToTheEnd (old : CoreState) (decided : DecidedValue) (new : CoreState) : Type 0 where
   pub mid : CoreState
   pub works : WorksOn old mid
   pub number : ℕ
   pub decides : Decides mid number decided new
 
--- they happen, and the switch behind them doesn't decide
+-- they are done, and the switch behind them doesn't decide
 pub record WorksInVain (old : CoreState) (fault : Fault) (new : CoreState) : Type 0 where
   pub mid : CoreState
   pub works : WorksOn old mid

@@ -1,6 +1,6 @@
 //! A build that is done a piece at a time.
-ghost use Rattle.std.specs.Prelude.{◌≡◌, true, false, IfOk, IfErr, IsSomeAnd, OnOk, OnErr};
-ghost use Rattle.embedding.specs.Pieces.{FailsToAdvance, IsOfWork, StopsWork, WorksOn, WorksToTheEnd};
+ghost use Rattle.std.specs.Prelude.{◌≡◌, true, false, None, IfOk, IfErr, IsSomeAnd, OnOk, OnErr};
+ghost use Rattle.embedding.specs.Pieces.{FailsToAdvance, HasWorked, IsOfWork, StopsWork, WorksOn, WorksToTheEnd};
 
 use crate::Kept;
 use crate::builds::decide;
@@ -22,7 +22,7 @@ impl Kept {
     /// spoiled build, and after [`Fault::NoPage`] and [`Fault::Memory`] where these spoil it, the build can only be given up.
     pub fn advance(&mut self, most: usize) -> Result<bool, Fault>
         ensures ready { IfOk result (λ ready. ready ≡ true → IsSomeAnd self.new.decided (λ decided. WorksToTheEnd self.old.core decided self.new.core)) }
-        ensures goes_on { IfOk result (λ ready. ready ≡ false → WorksOn self.old.core self.new.core × (self.new.decided ≡ self.old.decided)) }
+        ensures goes_on { IfOk result (λ ready. ready ≡ false → HasWorked self.old.core self.new.core × (self.new.decided ≡ self.old.decided)) }
         ensures refused { IfErr result (λ fault. FailsToAdvance self.old.core fault self.new.core) }
         ensures kept { OnErr result (self.new.decided ≡ self.old.decided) }
     {
@@ -47,7 +47,7 @@ fn advanced<T: Table>(
     requires rings { table.pages ≡ T.pages }
     requires sides { table.sides ≡ T.sides }
     ensures ready { IfOk result.1 (λ ready. ready ≡ true → IsSomeAnd decided.new (λ told. WorksToTheEnd table.core told result.0.core)) }
-    ensures goes_on { IfOk result.1 (λ ready. ready ≡ false → WorksOn table.core result.0.core × (decided.new ≡ decided.old)) }
+    ensures goes_on { IfOk result.1 (λ ready. ready ≡ false → HasWorked table.core result.0.core × (decided.new ≡ decided.old)) }
     ensures refused { IfErr result.1 (λ fault. FailsToAdvance table.core fault result.0.core) }
     ensures kept { OnErr result.1 (decided.new ≡ decided.old) }
 {
@@ -64,7 +64,7 @@ fn advance<T: Table>(
     most: usize,
 ) -> Result<bool, Fault>
     ensures ready { IfOk result (λ ready. ready ≡ true → IsSomeAnd decided.new (λ told. WorksToTheEnd leased.old told leased.new)) }
-    ensures goes_on { IfOk result (λ ready. ready ≡ false → WorksOn leased.old leased.new × (decided.new ≡ decided.old)) }
+    ensures goes_on { IfOk result (λ ready. ready ≡ false → HasWorked leased.old leased.new × (decided.new ≡ decided.old)) }
     ensures refused { IfErr result (λ fault. FailsToAdvance leased.old fault leased.new) }
     ensures kept { OnErr result (decided.new ≡ decided.old) }
 {
@@ -85,6 +85,7 @@ fn work_on<T: Table>(
     most: usize,
 ) -> Result<bool, Fault>
     ensures done { OnOk result (WorksOn leased.old leased.new) }
+    ensures some { IfOk result (λ more. more ≡ true → HasWorked leased.old leased.new) }
     ensures refused { IfErr result (λ fault. StopsWork leased.old fault leased.new) }
 {
     let Some((workers, indexes, range)) = build_counts(leased) else {
@@ -114,7 +115,7 @@ fn copy_page<T: Table>(
     range: usize,
     worker: usize,
 ) -> Result<(), Fault>
-    ensures done { OnOk result (WorksOn leased.old leased.new) }
+    ensures done { OnOk result (HasWorked leased.old leased.new) }
     ensures refused { IfErr result (λ fault. StopsWork leased.old fault leased.new) }
 {
     scan(leased, pages, range, worker)?;
@@ -143,7 +144,7 @@ fn scan<T: Table>(
 
 /// Lets the worker make the pairs of one copy.
 fn digest<T: Table>(leased: &mut LeasedCore<T>, worker: usize) -> Result<(), Fault>
-    ensures done { OnOk result (WorksOn leased.old leased.new) }
+    ensures done { OnOk result (HasWorked leased.old leased.new) }
     ensures refused { IfErr result (λ fault. StopsWork leased.old fault leased.new) }
 {
     match work(leased, Event::Digest { worker }) {
@@ -154,7 +155,7 @@ fn digest<T: Table>(leased: &mut LeasedCore<T>, worker: usize) -> Result<(), Fau
 
 /// Puts the pairs of the index in order, or lets the lowest worker close its runs that has not.
 fn put_in_order<T: Table>(leased: &mut LeasedCore<T>, index: usize) -> Result<(), Fault>
-    ensures done { OnOk result (WorksOn leased.old leased.new) }
+    ensures done { OnOk result (HasWorked leased.old leased.new) }
     ensures refused { IfErr result (λ fault. StopsWork leased.old fault leased.new) }
 {
     match load(leased, index)? {
@@ -165,7 +166,8 @@ fn put_in_order<T: Table>(leased: &mut LeasedCore<T>, index: usize) -> Result<()
 
 /// Puts the pairs of the index in order, or answers the lowest worker that has not closed its runs.
 fn load<T: Table>(leased: &mut LeasedCore<T>, index: usize) -> Result<Option<usize>, Fault>
-    ensures done { OnOk result (WorksOn leased.old leased.new) }
+    ensures done { IfOk result (λ unsealed. unsealed ≡ None → HasWorked leased.old leased.new) }
+    ensures unsealed { OnOk result (WorksOn leased.old leased.new) }
     ensures refused { IfErr result (λ fault. StopsWork leased.old fault leased.new) }
 {
     match work(leased, Event::Load { index }) {
@@ -177,7 +179,7 @@ fn load<T: Table>(leased: &mut LeasedCore<T>, index: usize) -> Result<Option<usi
 
 /// Lets the worker close its runs.
 fn seal<T: Table>(leased: &mut LeasedCore<T>, worker: usize) -> Result<(), Fault>
-    ensures done { OnOk result (WorksOn leased.old leased.new) }
+    ensures done { OnOk result (HasWorked leased.old leased.new) }
     ensures refused { IfErr result (λ fault. StopsWork leased.old fault leased.new) }
 {
     match work(leased, Event::Seal { worker }) {
@@ -193,6 +195,7 @@ fn catch_up<T: Table>(
     most: usize,
 ) -> Result<bool, Fault>
     ensures done { OnOk result (WorksOn leased.old leased.new) }
+    ensures some { IfOk result (λ more. more ≡ true → HasWorked leased.old leased.new) }
     ensures refused { IfErr result (λ fault. StopsWork leased.old fault leased.new) }
 {
     for index in 0..indexes {
@@ -209,7 +212,7 @@ fn catch_up_one<T: Table>(
     index: usize,
     most: usize,
 ) -> Result<bool, Fault>
-    ensures done { OnOk result (WorksOn leased.old leased.new) }
+    ensures done { OnOk result (HasWorked leased.old leased.new) }
     ensures refused { IfErr result (λ fault. StopsWork leased.old fault leased.new) }
 {
     let fed = work(leased, Event::Feed { index, most })?;
@@ -228,7 +231,7 @@ fn has_entries(reply: &Reply) -> bool {
 /// Does one event of the build's work.
 fn work<T: Table>(leased: &mut LeasedCore<T>, event: Event) -> Result<Reply, Fault>
     requires { IsOfWork event }
-    ensures done { OnOk result (WorksOn leased.old leased.new) }
+    ensures done { OnOk result (HasWorked leased.old leased.new) }
     ensures refused { IfErr result (λ fault. StopsWork leased.old fault leased.new) }
 {
     match leased.step(event) {

@@ -1,5 +1,6 @@
 //! What a switch decided, kept beside the table.
-ghost use Rattle.std.specs.Prelude.{◌≡◌, None, Some, length, slice_get, IfOk, IfErr, MatchOption};
+ghost use Rattle.std.specs.Prelude.{◌≡◌, None, Some, length, slice_get, IfOk, IfErr, IfSome, MatchOption};
+ghost use Rattle.keybytes.specs.Rows.{row_refusal};
 ghost use Rattle.build_events.specs.Verdicts.{HaveSharedKeys};
 ghost use Rattle.embedding.specs.Decisions.{AreSharedCells, IsNotShared, specs_in, verdicts_in};
 
@@ -53,12 +54,17 @@ impl Decided {
         ensures ok { IfOk result (λ told. MatchOption told
             (IsNotShared (slice_get self.now.verdicts index))
             (λ cells. AreSharedCells (slice_get self.now.specs index) (slice_get self.now.verdicts index) cells.items)) }
+        ensures row { IfOk result (λ told. IfSome told (λ cells. row_refusal cells.items ≡ None)) }
         ensures memory { IfErr result (λ fault. fault ≡ Fault.Memory) }
     {
         let _kept = &self.specs;
         match self.verdict(index) {
             Some(Outcome::Shared { key, .. }) => match self.spec(index) {
-                Some(spec) => Ok(Some(spec.cells(key)?)),
+                Some(spec) => {
+                    // An index has a column at least, and so few that they are a row.
+                    let _columns = spec.columns();
+                    Ok(Some(spec.cells(key)?))
+                }
                 None => unreachable!(),
             },
             Some(Outcome::Ready(_)) | None => Ok(None),
@@ -94,6 +100,7 @@ impl Kept {
         ensures ok { IfOk result (λ told. MatchOption told
             (IsNotShared (slice_get (verdicts_in self.now.decided) index))
             (λ cells. AreSharedCells (slice_get (specs_in self.now.decided) index) (slice_get (verdicts_in self.now.decided) index) cells.items)) }
+        ensures row { IfOk result (λ told. IfSome told (λ cells. row_refusal cells.items ≡ None)) }
         ensures memory { IfErr result (λ fault. fault ≡ Fault.Memory) }
     {
         match &self.decided {

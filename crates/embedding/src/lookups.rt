@@ -34,6 +34,7 @@ impl Kept {
     /// or more columns; [`Fault::BadColumn`] of an index of other columns than the table's; [`Fault::RowShape`].
     pub fn key(&mut self, number: usize, columns: usize, row: &Row) -> Result<Key, Fault>
         ensures ok { IfOk result (IsFirstKey self.old.core.live.heap.schema columns (slice_get self.old.core.live.ready number) row.now) }
+        ensures accepted { OnOk result (key_refusal self.old.core.live number columns row.now ≡ None) }
         ensures refused { IfErr result (RefusedFor (key_refusal self.old.core.live number columns row.now)) }
         ensures unchanged { self.new ≡ self.old }
     {
@@ -84,6 +85,7 @@ fn key_by<T: Table>(
     requires pages { table.pages ≡ T.pages }
     requires sides { table.sides ≡ T.sides }
     ensures ok { IfOk result.1 (IsFirstKey table.core.live.heap.schema columns (slice_get table.core.live.ready number) row.now) }
+    ensures accepted { OnOk result.1 (key_refusal table.core.live number columns row.now ≡ None) }
     ensures refused { IfErr result.1 (RefusedFor (key_refusal table.core.live number columns row.now)) }
     ensures unchanged { result.0.core ≡ table.core }
 {
@@ -100,6 +102,7 @@ fn first_key<T: Table>(
     row: &Row,
 ) -> Result<Key, Fault>
     ensures ok { IfOk result (IsFirstKey core.now.live.heap.schema columns (slice_get core.now.live.ready number) row.now) }
+    ensures accepted { OnOk result (key_refusal core.now.live number columns row.now ≡ None) }
     ensures refused { IfErr result (RefusedFor (key_refusal core.now.live number columns row.now)) }
 {
     let index = core.ready(number)?;
@@ -122,6 +125,7 @@ fn key_by_first(
     row: &Row,
 ) -> Result<Key, Fault>
     ensures ok { IfOk result (λ key. key ≡ key_of (first_columns schema.now count spec.now) row.now) }
+    ensures accepted { OnOk result (first_cause (spec_refusal schema.now count spec.now) (shape_refusal schema.now row.now) ≡ None) }
     ensures refused { IfErr result (RefusedFor (first_cause (spec_refusal schema.now count spec.now) (shape_refusal schema.now row.now))) }
 {
     let columns = first_columns(schema, spec, count)?;

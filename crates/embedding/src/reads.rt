@@ -1,5 +1,6 @@
 //! What is read of a table that is kept.
-ghost use Rattle.std.specs.Prelude.{◌≡◌, List, Some, IfOk, IfErr, OnOk, OnErr};
+ghost use Rattle.std.specs.Prelude.{◌≡◌, true, List, Some, IfOk, IfErr, OnOk, OnErr};
+ghost use Rattle.keybytes.specs.Cells.{fits};
 ghost use Rattle.keybytes.specs.Faults.{RefusedFor};
 ghost use Rattle.keybytes.specs.Rows.{RefusesReading, Spells};
 ghost use Rattle.keybytes.specs.declared.cell.Cell.{Cell};
@@ -19,6 +20,7 @@ impl Kept {
     /// The row that stands at a RID now; [`Fault::NoSuchRow`] where none does. Counts as a visit.
     pub fn get(&mut self, rid: Rid) -> Result<Row, Fault>
         ensures ok { IfOk result (λ row. live_at self.old.core.live.heap.log rid ≡ Some row) }
+        ensures fits { IfOk result (λ row. fits self.old.core.live.heap.schema row ≡ true) }
         ensures visited { OnOk result (self.new.core ≡ with_heap self.old.core (after_visit self.old.core.live.heap)) }
         ensures unchanged { OnErr result (self.new.core ≡ self.old.core) }
         ensures refused { IfErr result (RefusedFor (row_missing (live_at self.old.core.live.heap.log rid))) }
@@ -67,11 +69,14 @@ fn row_at<T: Table>(table: ShutLeased, rid: Rid) -> (ShutLeased, Result<Row, Fau
     requires pages { table.pages ≡ T.pages }
     requires sides { table.sides ≡ T.sides }
     ensures ok { IfOk result.1 (λ row. live_at table.core.live.heap.log rid ≡ Some row) }
+    ensures fits { IfOk result.1 (λ row. fits table.core.live.heap.schema row ≡ true) }
     ensures visited { OnOk result.1 (result.0.core ≡ with_heap table.core (after_visit table.core.live.heap)) }
     ensures unchanged { OnErr result.1 (result.0.core ≡ table.core) }
     ensures refused { IfErr result.1 (RefusedFor (row_missing (live_at table.core.live.heap.log rid))) }
 {
     let mut named = table.open::<T>();
+    // Each row that stands has the table's columns.
+    named.core().live().heap().laws();
     let row = named.get(rid);
     (named.shut(), row)
 }

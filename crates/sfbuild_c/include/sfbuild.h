@@ -6,11 +6,11 @@
  * Threads that share a table take a mutex of the program's around each call on it. No call waits, starts a thread or
  * touches a file. Memory comes from malloc, realloc and free.
  *
- * Proved, for whatever list of calls: no call reads or writes beyond what is described here, each call returns, and an
- * index that becomes ready has one pair, key and address, of each row that stands, and no other. Each call also does
- * and answers what the definition of its step says; of sfbuild_open, _get, _start, _verdict, _key and _next that is
- * proved of what lies below them, and tested of the calls. (docs/C.md, docs/PROMISES.md.) What the program has to keep,
- * since nothing can check it:
+ * Proved, for whatever list of calls: no call reads or writes beyond what is described here, each call returns and does
+ * and answers what its definition says, and an index that becomes ready has one pair, key and address, of each row that
+ * stands, and no other. Only tested is which of its faults a piece of a build (sfbuild_step) answers, that it gets on
+ * each time, that NO_PAGE comes only of a full quota, and the pages that sfbuild_progress tells. (docs/C.md,
+ * docs/PROMISES.md.) What the program has to keep, since nothing can check it:
  *
  * - Pointers aren't null, point to what they are said to, and not into one another. Lengths are true. Also for no
  *   bytes the pointer isn't null.
@@ -44,10 +44,12 @@ extern "C" {
 #define SFBUILD_QUOTA_MAX 1024     /* pages that a spool may lease */
 
 /* What a call answers. From 10 on it is the number of a refusal: the first cause that holds, in the order in which
- * the call lists them. A refused call changes nothing but `cause`, and doesn't write through its other pointers,
- * except where its refusal says otherwise. Each call of a table that isn't open answers SFBUILD_CLOSED, and each call
- * that takes memory SFBUILD_MEMORY where there is none, and nothing else refuses it; but sfbuild_open may answer it
- * before BAD_COUNT, and sfbuild_start before BUILD_RUNNING, since they take memory for the bytes that they read. */
+ * the call lists them. A call that doesn't answer DONE writes through none of its pointers but the table's, except that
+ * ROOM writes `*length`; one that is refused changes nothing but `cause`, except where its refusal says otherwise. Each
+ * call of a table that isn't open answers SFBUILD_CLOSED, and each call that takes memory SFBUILD_MEMORY where there is
+ * none, and nothing else refuses it. But some memory is taken before the last cause is asked for: for the bytes of a row
+ * or of indexes once they are read; at a start also for its spools; at a switch for what it decides, once a build runs.
+ */
 enum {
     SFBUILD_DONE = 0,
     SFBUILD_CLOSED = 1,         /* the table isn't open */
@@ -154,8 +156,8 @@ uint8_t sfbuild_pages(sfbuild *table, uint32_t *pages);
 /* A build starts, of the 1 to 8 indexes that the bytes spell (sfbuild_put_index), by 1 to 16 `workers` over 1 to 256
  * `ranges` of pages, which share the table's pages out evenly. `quota` is how many pages of 4,096 bytes each worker
  * may lease for the sorted pairs of each index, to SFBUILD_QUOTA_MAX. `*pages` is how many pages of the table the
- * build reads. BAD_COLUMN of bytes that spell no indexes of the table; BUILD_RUNNING; BAD_COUNT, also where more than
- * 32 indexes would be ready with these; BAD_RANGES. */
+ * build reads. BUILD_RUNNING; BAD_COLUMN of bytes that aren't those of indexes of the table; BAD_COUNT, also of no
+ * index, or where more than 32 would be ready with these; BAD_RANGES. */
 uint8_t sfbuild_start(sfbuild *table, const uint8_t *indexes, size_t length, size_t workers, size_t ranges, size_t quota,
                       uint32_t *pages);
 
@@ -208,7 +210,7 @@ uint8_t sfbuild_abandon(sfbuild *table);
 
 /* What the newest switch decided of an index of its build. Where `ready`, it is ready index `number` of the table,
  * for as long as the table is open. Else it is unique, two rows shared a key, `first` and `second` are their
- * addresses, and nothing of the index is left. */
+ * addresses, and nothing of the index is left. What isn't named here is 0. */
 typedef struct {
     bool ready;
     size_t number;
@@ -245,7 +247,8 @@ uint8_t sfbuild_key(sfbuild *table, size_t index, size_t columns, const uint8_t 
 
 /* Finds the first pair of the ready index that isn't before (key, rid) or, with `past`, the first behind it, and
  * writes it over `key`, `*length` and `*rid`. The bytes need not be a whole key; none are before all. `room` is what
- * `key` has room for, best SFBUILD_KEY_MAX. BAD_COUNT, also of more bytes than `room`; END; ROOM. */
+ * `key` has room for, best SFBUILD_KEY_MAX. BAD_COUNT, also of more bytes than `room` or SFBUILD_KEY_MAX; END; ROOM,
+ * behind which `*length` is what the key needs: set it back before the call is made again. */
 uint8_t sfbuild_next(sfbuild *table, size_t index, bool past, uint8_t *key, size_t room, size_t *length,
                      sfbuild_rid *rid);
 

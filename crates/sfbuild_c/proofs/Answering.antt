@@ -1,5 +1,5 @@
 -- A call answers what the step of the core says.
-use Rattle.std.proofs.Common.{◌≡◌, ℕ, Option, None, Some, IsSomeAnd, refl, sym, ap, ◌∙◌, inl, inr}
+use Rattle.std.proofs.Common.{◌≡◌, ℕ, Bool, true, false, Option, None, Some, IsSomeAnd, refl, sym, ap, ◌∙◌, inl, inr}
 use Rattle.keybytes.specs.Faults.{number_of}
 use Rattle.keybytes.specs.declared.fault.Fault.{Fault}
 use Rattle.build_events.specs.declared.event.Event.{Event}
@@ -8,12 +8,15 @@ use Rattle.build_events.specs.declared.reply.Reply.TheVariants.{Refused}
 use Rattle.build_events.specs.CoreState.{CoreState}
 use Rattle.embedding.specs.Decisions.{Decides}
 use Rattle.embedding.specs.KeptTables.{DecidedValue, KeptValue}
-use Rattle.sfbuild_c.specs.Answers.{Answered, OnTable, Steps}
+use Rattle.embedding.specs.Pieces.{HasWorked, WorksToTheEnd}
+use Rattle.sfbuild_c.specs.Building.{Advances}
+use Rattle.sfbuild_c.specs.Answers.{Answered, KeepsCause, OnTable, Steps}
 use Rattle.sfbuild_c.specs.Causes.{cause_of}
 use Rattle.sfbuild_c.specs.declared.session.Session.{Session}
 
-pub answered_done : (event : Event) (reply : Reply) (old new : Session) → OnTable (Steps event reply) old new → Answered event reply 0 old new
-answered_done event reply old new on = inl (on.0, on.1, on.2, on.3, (refl, on.4))
+pub answered_done :
+    (event : Event) (reply : Reply) (old new : Session) → OnTable (Steps event reply) old new → KeepsCause old new → Answered event reply 0 old new
+answered_done event reply old new on keeps = inl ((on.0, on.1, on.2, on.3, (refl, on.4)), keeps)
 
 pub answered_refused :
     (event : Event) (reply : Reply) (fault : Fault) (status : ℕ) (old mid new : Session) → OnTable (Steps event (Refused fault)) old mid
@@ -32,3 +35,10 @@ pub some_decides :
     → IsSomeAnd told (λ decided. (record_number : ℕ) × Decides old record_number decided new)
 some_decides None number old new decides = absurd decides
 some_decides (Some decided) number old new decides = (number, decides)
+
+-- a piece of a build is the last, or one before it
+pub advances :
+    (switched : Bool) (before after : KeptValue) → (switched ≡ true → IsSomeAnd after.decided (λ decided. WorksToTheEnd before.core decided after.core))
+    → (switched ≡ false → HasWorked before.core after.core × (after.decided ≡ before.decided)) → Advances switched before after
+advances true before after ends goes_on = ends refl
+advances false before after ends goes_on = goes_on refl

@@ -1,2 +1,8 @@
 mod Answering
 pub mod Apart
+mod CellKinds
+mod ColumnLists
+mod IndexLists
+mod KindLists
+mod PairCauses
+mod Starting

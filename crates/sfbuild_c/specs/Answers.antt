@@ -12,9 +12,13 @@ use Rattle.embedding.specs.KeptTables.{KeptValue}
 use Rattle.sfbuild_c.specs.Causes.{cause_of}
 use Rattle.sfbuild_c.specs.declared.session.Session.{Session}
 
+-- what the newest refusal said stays
+abbrev pub KeepsCause : Session → Session → Type 0
+KeepsCause old new = new.cause ≡ old.cause
+
 -- no table is open, before or after
 abbrev pub IsClosed : Session → Session → Type 0
-IsClosed old new = (old.held.table ≡ None) × (new.held.table ≡ None)
+IsClosed old new = (old.held.table ≡ None) × (new.held.table ≡ None) × KeepsCause old new
 
 -- a table is open before and after, and this holds of both
 abbrev pub OnTable : (KeptValue → KeptValue → Type 0) → Session → Session → Type 0
@@ -32,11 +36,19 @@ IsNotDone Refuses status old new =
 
 -- a call does this to the table, or it is not done
 abbrev pub Tells : (KeptValue → KeptValue → Type 0) → (Fault → KeptValue → KeptValue → Type 0) → ℕ → Session → Session → Type 0
-Tells Does Refuses status old new = OnTable Does old new ⊎ IsNotDone Refuses status old new
+Tells Does Refuses status old new = (OnTable Does old new × KeepsCause old new) ⊎ IsNotDone Refuses status old new
 
 -- what a status tells: 0 that the call did this, 1 that no table is open, else the fault that refuses it so
 abbrev pub Answers : (KeptValue → KeptValue → Type 0) → (Fault → KeptValue → KeptValue → Type 0) → ℕ → Session → Session → Type 0
 Answers Does Refuses status = Tells (λ before after. (status ≡ 0) × Does before after) Refuses status
+
+-- this holds where the call is not done
+abbrev pub UnlessDone : ℕ → Type 0 → Type 0
+UnlessDone status Holds = (status ≡ 0) ⊎ Holds
+
+-- this holds where the call is not done, and no buffer was too small for what it has to tell
+abbrev pub UnlessTold : ℕ → Type 0 → Type 0
+UnlessTold status Holds = UnlessDone status ((status ≡ 4) ⊎ Holds)
 
 -- an event of the core is replied so, and what the newest switch decided stays
 abbrev pub Steps : Event → Reply → KeptValue → KeptValue → Type 0
@@ -47,14 +59,14 @@ abbrev pub Answered : Event → Reply → ℕ → Session → Session → Type 0
 Answered event reply = Answers (Steps event reply) (λ fault. Steps event (Refused fault))
 
 -- the bytes are refused as a row of the table, and nothing changes
-abbrev pub RefusesRow : List ℕ → Fault → KeptValue → KeptValue → Type 0
-RefusesRow bytes fault before after = RefusesReading before.core.live.heap.schema bytes fault × (after ≡ before)
+abbrev pub RefusesRowBytes : List ℕ → Fault → KeptValue → KeptValue → Type 0
+RefusesRowBytes bytes fault before after = RefusesReading before.core.live.heap.schema bytes fault × (after ≡ before)
 
 -- the bytes spell these cells of a row of the table
-abbrev pub IsRowOf : List ℕ → List Cell → Session → Type 0
-IsRowOf bytes cells session = IsSomeAnd session.held.table (λ table. Spells table.core.live.heap.schema bytes cells)
+abbrev pub SpellsRow : List ℕ → List Cell → Session → Type 0
+SpellsRow bytes cells session = IsSomeAnd session.held.table (λ table. Spells table.core.live.heap.schema bytes cells)
 
 -- the bytes are read as a row of the table first; then this holds of its cells
 abbrev pub WithRow : List ℕ → (List Cell → ℕ → Session → Session → Type 0) → ℕ → Session → Session → Type 0
 WithRow bytes Goes status old new =
-    IsNotDone (RefusesRow bytes) status old new ⊎ ((cells : List Cell) × IsRowOf bytes cells old × Goes cells status old new)
+    IsNotDone (RefusesRowBytes bytes) status old new ⊎ ((cells : List Cell) × SpellsRow bytes cells old × Goes cells status old new)

@@ -1,6 +1,7 @@
 -- What the calls of a build do that are no single event of the core.
-use Rattle.std.specs.Prelude.{◌≡◌, ◌⊎◌, ℕ, Bool, true, false, List, None, length, IsSomeAnd}
+use Rattle.std.specs.Prelude.{◌≡◌, ◌⊎◌, ℕ, Bool, true, false, List, None, is_some, length, IsSomeAnd}
 use Rattle.keybytes.specs.declared.fault.Fault.{Fault}
+use Rattle.keybytes.specs.declared.fault.Fault.TheVariants.{BuildRunning}
 use Rattle.keybytes.specs.declared.kind.Kind.{Kind}
 use Rattle.scan_range.specs.declared.dealing.Dealing.TheVariants.{Even}
 use Rattle.build_events.specs.declared.event.Event.TheVariants.{Abandon}
@@ -9,34 +10,36 @@ use Rattle.build_events.specs.declared.reply.Reply.TheVariants.{Abandoned, Start
 use Rattle.leased_core.specs.Leasing.{EndsBuild, StartsOver}
 use Rattle.embedding.specs.Decisions.{Decides, FailsToDecide, verdicts_in}
 use Rattle.embedding.specs.KeptTables.{KeptValue}
-use Rattle.embedding.specs.Pieces.{FailsToAdvance, WorksOn, WorksToTheEnd}
-use Rattle.embedding.specs.Starts.{RefusesStart, limits_refusal}
+use Rattle.embedding.specs.Pieces.{FailsToAdvance, HasWorked, WorksToTheEnd}
+use Rattle.embedding.specs.Starts.{RefusesStart, spools_refusal}
 use Rattle.sfbuild_c.specs.IndexBytes.{RefusesIndexes, SpellsIndexes}
 
--- a build of the indexes that the bytes are of, with so many workers and ranges
+-- a build of the indexes that the bytes spell, with so many workers and ranges
 pub record IsAskedFor (kinds : List Kind) (bytes : List ℕ) (workers ranges : ℕ) (plan : Plan) : Type 0 where
   pub specs : SpellsIndexes kinds bytes plan.specs.items
   pub workers_are : plan.workers ≡ workers
   pub dealing : plan.dealing ≡ Even ranges
 
 -- the build that is asked for starts, and reads so many pages
-abbrev pub Starts : List ℕ → ℕ → ℕ → ℕ → ℕ → KeptValue → KeptValue → Type 0
-Starts bytes workers ranges quota pages before after =
+abbrev pub StartsBuild : List ℕ → ℕ → ℕ → ℕ → ℕ → KeptValue → KeptValue → Type 0
+StartsBuild bytes workers ranges quota pages before after =
     (after.decided ≡ before.decided)
     × ((plan : Plan) × IsAskedFor before.core.live.heap.schema bytes workers ranges plan
-    × (limits_refusal quota plan before.core ≡ None) × StartsOver quota plan before.core (Started pages) after.core)
+    × (spools_refusal quota plan before.core ≡ None) × StartsOver quota plan before.core (Started pages) after.core)
 
--- it doesn't: the bytes are of no indexes, or the build is refused
-abbrev pub FailsToStart : List ℕ → ℕ → ℕ → ℕ → Fault → KeptValue → KeptValue → Type 0
-FailsToStart bytes workers ranges quota fault before after =
+-- it doesn't: a build runs; or the bytes aren't those of indexes, or there is no memory for these; or the start is refused
+abbrev pub RefusesBuild : List ℕ → ℕ → ℕ → ℕ → Fault → KeptValue → KeptValue → Type 0
+RefusesBuild bytes workers ranges quota fault before after =
     (after ≡ before)
+    × (((fault ≡ BuildRunning) × (is_some before.core.live.build ≡ true))
+    ⊎ ((before.core.live.build ≡ None)
     × (RefusesIndexes before.core.live.heap.schema bytes fault
-    ⊎ ((plan : Plan) × IsAskedFor before.core.live.heap.schema bytes workers ranges plan × RefusesStart quota plan before.core fault))
+    ⊎ ((plan : Plan) × IsAskedFor before.core.live.heap.schema bytes workers ranges plan × RefusesStart quota plan before.core fault))))
 
 -- a piece of a build: the last, which is the switch, or one before it
 abbrev pub Advances : Bool → KeptValue → KeptValue → Type 0
 Advances true before after = IsSomeAnd after.decided (λ decided. WorksToTheEnd before.core decided after.core)
-Advances false before after = WorksOn before.core after.core × (after.decided ≡ before.decided)
+Advances false before after = HasWorked before.core after.core × (after.decided ≡ before.decided)
 
 -- a piece of a build ends with a fault
 abbrev pub FailsToGoOn : Fault → KeptValue → KeptValue → Type 0

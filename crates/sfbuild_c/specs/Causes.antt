@@ -1,12 +1,12 @@
 -- What a refusal says beside its number.
 use Rattle.keybytes.specs.declared.fault.Fault.{Fault}
 use Rattle.keybytes.specs.declared.fault.Fault.TheVariants.{RowHeld, Duplicate, KeyHeld, NotScanned, NotLoaded, Behind, Busy, NotSealed}
-use Rattle.sfbuild_c.specs.Places.{place_of}
+use Rattle.sfbuild_c.specs.Places.{no_place, place_of}
 use Rattle.sfbuild_c.specs.declared.cause.Cause.{Cause}
 
 -- it says nothing
 abbrev pub no_cause : Cause
-no_cause = record { index = 0; number = 0; rid = record { page = 0; slot = 0 } }
+no_cause = record { index = 0; number = 0; rid = no_place }
 
 -- the index, the number and the place that the fault names
 abbrev pub cause_of : Fault → Cause

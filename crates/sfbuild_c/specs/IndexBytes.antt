@@ -42,6 +42,7 @@ pub record BreaksOff (kinds : List Kind) (bytes : List ℕ) : Type 0 where
   pub some : rest ≢ []
   pub none : NoIndexBegins kinds rest
 
--- the bytes are not those of indexes, or there is no memory
+-- the bytes are not those of indexes, or they are and there is no memory for these
 abbrev pub RefusesIndexes : List Kind → List ℕ → Fault → Type 0
-RefusesIndexes kinds bytes fault = ((fault ≡ BadColumn) × BreaksOff kinds bytes) ⊎ (fault ≡ Memory)
+RefusesIndexes kinds bytes fault =
+    ((fault ≡ BadColumn) × BreaksOff kinds bytes) ⊎ ((fault ≡ Memory) × (specs : List KeySpecValue) × SpellsIndexes kinds bytes specs)

@@ -1,8 +1,8 @@
 -- The kinds of a table's columns, as C names them.
-use Rattle.std.specs.Prelude.{◌≡◌, ◌⊎◌, ℕ, List, None, map}
+use Rattle.std.specs.Prelude.{◌≡◌, ℕ, List, None, map}
 use Rattle.keybytes.specs.Schemas.{columns_refusal}
 use Rattle.keybytes.specs.declared.fault.Fault.{Fault}
-use Rattle.keybytes.specs.declared.fault.Fault.TheVariants.{BadColumn, Memory}
+use Rattle.keybytes.specs.declared.fault.Fault.TheVariants.{BadColumn}
 use Rattle.keybytes.specs.declared.kind.Kind.{Kind}
 use Rattle.keybytes.specs.declared.kind.Kind.TheVariants.{Int, Text, Flag}
 
@@ -17,6 +17,10 @@ pub record SpellsKinds (bytes : List ℕ) (kinds : List Kind) : Type 0 where
   pub bytes_are : bytes ≡ map kind_byte kinds
   pub columns : columns_refusal kinds ≡ None
 
--- they stand for no columns of a table, or there is no memory
+-- the bytes stand for the columns of some table
+abbrev pub SpellsTable : List ℕ → Type 0
+SpellsTable bytes = (kinds : List Kind) × SpellsKinds bytes kinds
+
+-- the bytes stand for the columns of no table, which is BadColumn
 abbrev pub RefusesKinds : List ℕ → Fault → Type 0
-RefusesKinds bytes fault = ((fault ≡ BadColumn) × ((kinds : List Kind) → SpellsKinds bytes kinds → ⊥)) ⊎ (fault ≡ Memory)
+RefusesKinds bytes fault = (fault ≡ BadColumn) × (SpellsTable bytes → ⊥)

@@ -5,6 +5,7 @@ pub mod Causes
 pub mod IndexBytes
 pub mod KindBytes
 pub mod Lookups
+pub mod NamedIndexes
 pub mod Opening
 pub mod Owned
 pub mod Places

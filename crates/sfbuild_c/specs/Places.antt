@@ -4,6 +4,9 @@ use Rattle.embedding.specs.declared.progress.Progress.{Progress}
 use Rattle.sfbuild_c.specs.declared.place.Place.{Place}
 use Rattle.sfbuild_c.specs.declared.progress.ProgressOf.{ProgressOf}
 
+abbrev pub no_place : Place
+no_place = record { page = 0; slot = 0 }
+
 abbrev pub place_of : Rid → Place
 place_of rid = record { page = rid.page; slot = rid.slot }
 

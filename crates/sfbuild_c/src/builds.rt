@@ -1,9 +1,9 @@
 //! The build of indexes: each of its events is a call.
-ghost use Rattle.std.specs.Prelude.{◌≡◌};
+ghost use Rattle.std.specs.Prelude.{◌≡◌, IfOk, IfErr};
 ghost use Rattle.build_events.specs.declared.event.Event.{Event};
 ghost use Rattle.build_events.specs.declared.reply.Reply.{Reply};
-ghost use Rattle.sfbuild_c.specs.Answers.{Answered, Answers, Steps};
-ghost use Rattle.sfbuild_c.specs.Building.{Advances, FailsToGoOn, FailsToSwitch, IsGivenUp, SwitchesTo};
+ghost use Rattle.sfbuild_c.specs.Answers.{Answered, Answers, Steps, UnlessDone};
+ghost use Rattle.sfbuild_c.specs.Building.{Advances, FailsToGoOn, FailsToSwitch, IsGivenUp, RefusesBuild, StartsBuild, SwitchesTo};
 
 use crate::index_bytes::read_indexes;
 use crate::session::Session;
@@ -23,7 +23,8 @@ pub extern "C" fn sfbuild_scan(
     worker: usize,
     page: &mut u32,
 ) -> u8
-    ensures { Answered (Event.Scan range worker) (Reply.Scanned page.new) result session.old session.new }
+    ensures told { Answered (Event.Scan range worker) (Reply.Scanned page.new) result session.old session.new }
+    ensures kept { UnlessDone result (page.new ≡ page.old) }
 {
     match session.step(alloc, Event::Scan { range, worker }) {
         Some(Reply::Scanned { page: copied }) => {
@@ -44,7 +45,8 @@ pub extern "C" fn sfbuild_digest(
     worker: usize,
     images: &mut usize,
 ) -> u8
-    ensures { Answered (Event.Digest worker) (Reply.Digested images.new) result session.old session.new }
+    ensures told { Answered (Event.Digest worker) (Reply.Digested images.new) result session.old session.new }
+    ensures kept { UnlessDone result (images.new ≡ images.old) }
 {
     match session.step(alloc, Event::Digest { worker }) {
         Some(Reply::Digested { images: taken }) => {
@@ -65,7 +67,8 @@ pub extern "C" fn sfbuild_seal(
     worker: usize,
     images: &mut usize,
 ) -> u8
-    ensures { Answered (Event.Seal worker) (Reply.Sealed images.new) result session.old session.new }
+    ensures told { Answered (Event.Seal worker) (Reply.Sealed images.new) result session.old session.new }
+    ensures kept { UnlessDone result (images.new ≡ images.old) }
 {
     match session.step(alloc, Event::Seal { worker }) {
         Some(Reply::Sealed { images: taken }) => {
@@ -86,7 +89,8 @@ pub extern "C" fn sfbuild_load(
     index: usize,
     pairs: &mut usize,
 ) -> u8
-    ensures { Answered (Event.Load index) (Reply.Loaded pairs.new) result session.old session.new }
+    ensures told { Answered (Event.Load index) (Reply.Loaded pairs.new) result session.old session.new }
+    ensures kept { UnlessDone result (pairs.new ≡ pairs.old) }
 {
     match session.step(alloc, Event::Load { index }) {
         Some(Reply::Loaded { pairs: loaded }) => {
@@ -108,7 +112,8 @@ pub extern "C" fn sfbuild_feed(
     most: usize,
     entries: &mut usize,
 ) -> u8
-    ensures { Answered (Event.Feed index most) (Reply.Fed entries.new) result session.old session.new }
+    ensures told { Answered (Event.Feed index most) (Reply.Fed entries.new) result session.old session.new }
+    ensures kept { UnlessDone result (entries.new ≡ entries.old) }
 {
     match session.step(alloc, Event::Feed { index, most }) {
         Some(Reply::Fed { entries: fed }) => {
@@ -130,7 +135,8 @@ pub extern "C" fn sfbuild_apply(
     most: usize,
     entries: &mut usize,
 ) -> u8
-    ensures { Answered (Event.Apply index most) (Reply.Applied entries.new) result session.old session.new }
+    ensures told { Answered (Event.Apply index most) (Reply.Applied entries.new) result session.old session.new }
+    ensures kept { UnlessDone result (entries.new ≡ entries.old) }
 {
     match session.step(alloc, Event::Apply { index, most }) {
         Some(Reply::Applied { entries: applied }) => {
@@ -166,7 +172,10 @@ pub extern "C" fn sfbuild_start(
     ranges: usize,
     quota: usize,
     pages: &mut u32,
-) -> u8 {
+) -> u8
+    ensures told { Answers (StartsBuild indexes.now workers ranges quota pages.new) (RefusesBuild indexes.now workers ranges quota) result session.old session.new }
+    ensures kept { UnlessDone result (pages.new ≡ pages.old) }
+{
     let Some(mut table) = session.take(alloc) else {
         return CLOSED;
     };
@@ -189,7 +198,13 @@ fn start(
     workers: usize,
     ranges: usize,
     quota: usize,
-) -> Result<u32, Fault> {
+) -> Result<u32, Fault>
+    ensures started { IfOk result (λ pages. StartsBuild indexes.now workers ranges quota pages table.old table.new) }
+    ensures refused { IfErr result (λ fault. RefusesBuild indexes.now workers ranges quota fault table.old table.new) }
+{
+    if table.progress().running {
+        return Err(Fault::BuildRunning);
+    }
     let specs = read_indexes(alloc, indexes, &table.schema())?;
     let plan = Plan {
         specs,
@@ -209,7 +224,8 @@ pub extern "C" fn sfbuild_step(
     most: usize,
     ready: &mut bool,
 ) -> u8
-    ensures { Answers (Advances ready.new) FailsToGoOn result session.old session.new }
+    ensures told { Answers (Advances ready.new) FailsToGoOn result session.old session.new }
+    ensures kept { UnlessDone result (ready.new ≡ ready.old) }
 {
     let Some(mut table) = session.take(alloc) else {
         return CLOSED;
@@ -228,7 +244,8 @@ pub extern "C" fn sfbuild_step(
 /// Tries to bring the indexes of the build into use, and tells how many these were.
 #[unsafe(no_mangle)]
 pub extern "C" fn sfbuild_switch(alloc: Global, session: &mut Session, indexes: &mut usize) -> u8
-    ensures { Answers (SwitchesTo indexes.new) FailsToSwitch result session.old session.new }
+    ensures told { Answers (SwitchesTo indexes.new) FailsToSwitch result session.old session.new }
+    ensures kept { UnlessDone result (indexes.new ≡ indexes.old) }
 {
     let Some(mut table) = session.take(alloc) else {
         return CLOSED;

@@ -2,7 +2,7 @@
 ghost use Rattle.std.specs.Prelude.{◌≡◌, None, Some, is_some, MatchOption, MatchResult};
 ghost use Rattle.keybytes.specs.Faults.{number_of};
 ghost use Rattle.leased_core.specs.Leasing.{KeepsBuild};
-ghost use Rattle.sfbuild_c.specs.Answers.{IsClosed, IsNotDone, IsRowOf, OnTable, RefusesRow, Steps};
+ghost use Rattle.sfbuild_c.specs.Answers.{IsClosed, IsNotDone, KeepsCause, OnTable, RefusesRowBytes, SpellsRow, Steps};
 ghost use Rattle.sfbuild_c.specs.Causes.{cause_of};
 
 use crate::bare::Bare;
@@ -67,7 +67,7 @@ impl Session {
     /// Does one event that neither starts a build nor ends one, or nothing where no table is open.
     pub(crate) fn step(&mut self, alloc: Global, event: Event) -> Option<Reply>
         requires { KeepsBuild event }
-        ensures { MatchOption result (IsClosed self.old self.new) (λ reply. OnTable (Steps event reply) self.old self.new) }
+        ensures { MatchOption result (IsClosed self.old self.new) (λ reply. OnTable (Steps event reply) self.old self.new × KeepsCause self.old self.new) }
     {
         let mut table = self.take(alloc)?;
         let reply = table.step(event);
@@ -78,8 +78,8 @@ impl Session {
     /// Reads bytes as a row of the table; the status where that is refused or none is open.
     pub(crate) fn read_row(&mut self, alloc: Global, bytes: &[u8]) -> Result<Row, u8>
         ensures { MatchResult result
-            (λ row. IsRowOf bytes.now row self.old × (self.new.held.table ≡ self.old.held.table))
-            (λ status. IsNotDone (RefusesRow bytes.now) status self.old self.new) }
+            (λ row. SpellsRow bytes.now row self.old × (self.new.held.table ≡ self.old.held.table) × KeepsCause self.old self.new)
+            (λ status. IsNotDone (RefusesRowBytes bytes.now) status self.old self.new) }
     {
         let Some(mut table) = self.take(alloc) else {
             return Err(CLOSED);

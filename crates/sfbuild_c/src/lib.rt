@@ -10,6 +10,7 @@ mod buffer;
 mod builds;
 mod calls;
 mod cause;
+mod cell_bytes;
 mod held;
 mod index_bytes;
 mod kind_bytes;

@@ -1,12 +1,16 @@
 //! The table itself: it is opened and closed.
-ghost use Rattle.sfbuild_c.specs.Opening.{Closes};
+ghost use Rattle.std.specs.Prelude.{◌≡◌, None, Some, IfOk, IfErr, OnOk};
+ghost use Rattle.keybytes.specs.Faults.{RefusedFor};
+ghost use Rattle.heap_table.specs.HeapState.{empty_heap, limits_refusal};
+ghost use Rattle.embedding.specs.KeptTables.{new_table};
+ghost use Rattle.sfbuild_c.specs.Opening.{Closes, IsNew, Opens, RefusesTable};
 
-use crate::kind_bytes::read_kinds;
+use crate::kind_bytes::{check_kinds, read_kinds};
 use crate::session::Session;
 use crate::status::{CLOSED, DONE, OPENED};
 use embedding::Kept;
 use heap_table::Heap;
-use keybytes::Fault;
+use keybytes::{Fault, Kind, Schema};
 use std::alloc::Global;
 
 /// Opens a table of these columns, with no row and no index.
@@ -17,7 +21,9 @@ pub extern "C" fn sfbuild_open(
     kinds: &[u8],
     slots_a_page: u8,
     pages: u32,
-) -> u8 {
+) -> u8
+    ensures { Opens kinds.now slots_a_page pages result session.old session.new }
+{
     if session.is_open() {
         return OPENED;
     }
@@ -44,14 +50,37 @@ pub extern "C" fn sfbuild_close(alloc: Global, session: &mut Session) -> u8
     }
 }
 
-/// A box with a new table.
-fn new_table(
+/// A box with a new table. What the bytes and the limits refuse is told before memory is asked for.
+fn new_table(alloc: Global, kinds: &[u8], slots_a_page: u8, pages: u32) -> Result<Box<Kept>, Fault>
+    ensures ok { IfOk result (λ table. IsNew kinds.now slots_a_page pages table.value) }
+    ensures refused { IfErr result (RefusesTable kinds.now slots_a_page pages) }
+{
+    check_kinds(kinds)?;
+    check_limits(alloc, slots_a_page, pages)?;
+    let schema = read_kinds(alloc, kinds)?;
+    boxed_table(alloc, schema, slots_a_page, pages)
+}
+
+/// Refuses the limits of no table, by making one of some column, which takes no memory.
+fn check_limits(alloc: Global, slots_a_page: u8, pages: u32) -> Result<(), Fault>
+    ensures accepted { OnOk result (limits_refusal slots_a_page pages ≡ None) }
+    ensures refused { IfErr result (λ fault. limits_refusal slots_a_page pages ≡ Some fault) }
+{
+    let _empty = Heap::new(alloc, Schema::of_one(Kind::Int), slots_a_page, pages)?;
+    Ok(())
+}
+
+/// A box with a new table of these columns.
+fn boxed_table(
     alloc: Global,
-    kinds: &[u8],
+    schema: Schema,
     slots_a_page: u8,
     pages: u32,
-) -> Result<Box<Kept>, Fault> {
-    let schema = read_kinds(alloc, kinds)?;
+) -> Result<Box<Kept>, Fault>
+    ensures ok { IfOk result (λ table. table.value ≡ record { core = new_table (empty_heap schema slots_a_page pages); decided = None }) }
+    ensures accepted { OnOk result (limits_refusal slots_a_page pages ≡ None) }
+    ensures refused { IfErr result (RefusedFor (limits_refusal slots_a_page pages)) }
+{
     let heap = Heap::new(alloc, schema, slots_a_page, pages)?;
     match Kept::new(alloc, heap) {
         Ok(table) => Ok(Box::new(alloc, table)?),

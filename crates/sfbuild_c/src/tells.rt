@@ -1,17 +1,20 @@
 //! What a build tells: how far it is, and what its switch decided.
-ghost use Rattle.sfbuild_c.specs.Answers.{Answers};
+ghost use Rattle.std.specs.Prelude.{◌≡◌, slice_get, IfOk, IfErr};
+ghost use Rattle.keybytes.specs.Faults.{RefusedFor};
+ghost use Rattle.heap_log.specs.declared.outcome.Outcome.{Outcome};
+ghost use Rattle.embedding.specs.Decisions.{verdicts_in};
+ghost use Rattle.sfbuild_c.specs.Answers.{Answers, Tells, UnlessDone, UnlessTold};
 ghost use Rattle.sfbuild_c.specs.Reading.{RefusesNothing};
-ghost use Rattle.sfbuild_c.specs.Telling.{IsSoFar};
+ghost use Rattle.sfbuild_c.specs.Telling.{AreBytesOf, HasNoVerdict, IsSoFar, IsVerdictOf, TellsVerdict, verdict_of, verdict_refusal};
 
 use crate::buffer::hand_out;
-use crate::place::Place;
+use crate::cell_bytes::cell_bytes;
 use crate::progress::ProgressOf;
 use crate::session::Session;
 use crate::status::{CLOSED, DONE};
 use crate::verdict::VerdictOf;
 use embedding::Kept;
-use heap_log::Outcome;
-use keybytes::{Cell, Fault, Kind, Row, Schema};
+use keybytes::Fault;
 use std::alloc::Global;
 
 /// Tells how far the build that runs is.
@@ -21,7 +24,8 @@ pub extern "C" fn sfbuild_progress(
     session: &mut Session,
     progress: &mut ProgressOf,
 ) -> u8
-    ensures { Answers (IsSoFar progress.new) RefusesNothing result session.old session.new }
+    ensures told { Answers (IsSoFar progress.new) RefusesNothing result session.old session.new }
+    ensures kept { UnlessDone result (progress.new ≡ progress.old) }
 {
     let Some(mut table) = session.take(alloc) else {
         return CLOSED;
@@ -40,7 +44,10 @@ pub extern "C" fn sfbuild_verdict(
     verdict: &mut VerdictOf,
     cells: &mut [u8],
     length: &mut usize,
-) -> u8 {
+) -> u8
+    ensures told { Tells (TellsVerdict index cells.old verdict.old result verdict.new cells.new length.new) (HasNoVerdict index) result session.old session.new }
+    ensures kept { UnlessTold result ((verdict.new ≡ verdict.old) × (cells.new ≡ cells.old) × (length.new ≡ length.old)) }
+{
     let Some(table) = session.take(alloc) else {
         return CLOSED;
     };
@@ -59,44 +66,24 @@ pub extern "C" fn sfbuild_verdict(
 }
 
 /// What was decided of an index, and the bytes of the cells of the key that rows share.
-fn told_of(table: &Kept, alloc: Global, index: usize) -> Result<(VerdictOf, Vec<u8>), Fault> {
-    let bytes = match table.shared_cells(index)? {
-        Some(cells) => cell_bytes(alloc, cells)?,
-        None => Vec::new(alloc),
+fn told_of(table: &Kept, alloc: Global, index: usize) -> Result<(VerdictOf, Vec<u8>), Fault>
+    ensures ok { IfOk result (λ told. (verdict : Outcome) × (told.0 ≡ verdict_of verdict) × IsVerdictOf index table.now verdict told.1.items) }
+    ensures refused { IfErr result (RefusedFor (verdict_refusal (slice_get (verdicts_in table.now.decided) index))) }
+{
+    let Some(verdict) = table.verdict(index) else {
+        return Err(Fault::BadCount);
     };
-    match table.verdict(index) {
-        None => Err(Fault::BadCount),
-        Some(Outcome::Ready(number)) => Ok((
-            VerdictOf {
-                ready: true,
-                number: *number,
-                first: Place { page: 0, slot: 0 },
-                second: Place { page: 0, slot: 0 },
-            },
-            bytes,
-        )),
-        Some(Outcome::Shared { first, second, .. }) => Ok((
-            VerdictOf {
-                ready: false,
-                number: 0,
-                first: Place::of(*first),
-                second: Place::of(*second),
-            },
-            bytes,
-        )),
-    }
+    let bytes = shared_bytes(table, alloc, index)?;
+    Ok((VerdictOf::of(verdict), bytes))
 }
 
-/// The bytes of a row of these cells.
-fn cell_bytes(alloc: Global, cells: Vec<Cell>) -> Result<Vec<u8>, Fault> {
-    let mut kinds = Vec::with_capacity(alloc, cells.len())?;
-    for cell in &cells {
-        kinds.push(match cell {
-            Cell::Text(_) => Kind::Text,
-            Cell::Flag(_) => Kind::Flag,
-            _ => Kind::Int,
-        })?;
+/// The bytes of the cells of the key that rows share, where they do.
+fn shared_bytes(table: &Kept, alloc: Global, index: usize) -> Result<Vec<u8>, Fault>
+    ensures ok { IfOk result (λ bytes. AreBytesOf index table.now bytes.items) }
+    ensures memory { IfErr result (λ fault. fault ≡ Fault.Memory) }
+{
+    match table.shared_cells(index)? {
+        Some(cells) => cell_bytes(alloc, cells),
+        None => Ok(Vec::new(alloc)),
     }
-    let schema = Schema::new(kinds)?;
-    Row::new(cells)?.to_bytes(&schema)
 }

@@ -1,4 +1,8 @@
+ghost use Rattle.std.specs.Prelude.{◌≡◌};
+ghost use Rattle.sfbuild_c.specs.Telling.{verdict_of};
+
 use crate::place::Place;
+use heap_log::Outcome;
 
 /// What a switch decided of an index, as C sees it.
 #[repr(C)]
@@ -8,4 +12,26 @@ pub struct VerdictOf {
     pub number: usize,
     pub first: Place,
     pub second: Place,
+}
+
+impl VerdictOf {
+    pub(crate) fn of(verdict: &Outcome) -> VerdictOf
+        ensures { result ≡ verdict_of verdict.now }
+    {
+        let none = Place { page: 0, slot: 0 };
+        match verdict {
+            Outcome::Ready(number) => VerdictOf {
+                ready: true,
+                number: *number,
+                first: none,
+                second: none,
+            },
+            Outcome::Shared { first, second, .. } => VerdictOf {
+                ready: false,
+                number: 0,
+                first: Place::of(*first),
+                second: Place::of(*second),
+            },
+        }
+    }
 }

@@ -3,7 +3,7 @@ ghost use Rattle.std.specs.Prelude.{◌≡◌, ℕ};
 ghost use Rattle.keybytes.specs.declared.rid.Rid.{Rid};
 ghost use Rattle.build_events.specs.declared.event.Event.{Event};
 ghost use Rattle.build_events.specs.declared.reply.Reply.{Reply};
-ghost use Rattle.sfbuild_c.specs.Answers.{Answered, WithRow};
+ghost use Rattle.sfbuild_c.specs.Answers.{Answered, UnlessDone, WithRow};
 ghost use Rattle.sfbuild_c.specs.Places.{rid_of};
 
 use crate::place::Place;
@@ -15,7 +15,8 @@ use std::alloc::Global;
 /// Begins a transaction, and tells its number.
 #[unsafe(no_mangle)]
 pub extern "C" fn sfbuild_begin(alloc: Global, session: &mut Session, txn: &mut u64) -> u8
-    ensures { Answered Event.Begin (Reply.Begun txn.new) result session.old session.new }
+    ensures told { Answered Event.Begin (Reply.Begun txn.new) result session.old session.new }
+    ensures kept { UnlessDone result (txn.new ≡ txn.old) }
 {
     match session.step(alloc, Event::Begin) {
         Some(Reply::Begun { txn: number }) => {
@@ -37,8 +38,9 @@ pub extern "C" fn sfbuild_insert(
     row: &[u8],
     at: &mut Place,
 ) -> u8
-    ensures { WithRow row.now (λ cells status old new. (number : ℕ) × Answered (Event.Insert txn cells) (Reply.Written number (rid_of at.new)) status old new)
+    ensures told { WithRow row.now (λ cells status old new. (number : ℕ) × Answered (Event.Insert txn cells) (Reply.Written number (rid_of at.new)) status old new)
         result session.old session.new }
+    ensures kept { UnlessDone result (at.new ≡ at.old) }
 {
     let row = match session.read_row(alloc, row) {
         Ok(row) => row,
@@ -116,7 +118,8 @@ pub extern "C" fn sfbuild_undo(
     txn: u64,
     left: &mut usize,
 ) -> u8
-    ensures { (number : ℕ) × Answered (Event.Undo txn) (Reply.Undone number left.new) result session.old session.new }
+    ensures told { (number : ℕ) × Answered (Event.Undo txn) (Reply.Undone number left.new) result session.old session.new }
+    ensures kept { UnlessDone result (left.new ≡ left.old) }
 {
     match session.step(alloc, Event::Undo { txn }) {
         Some(Reply::Undone { left: more, .. }) => {

@@ -1,5 +1,5 @@
 use Rattle.std.proofs.lemmas.Result.{err_from_is_err_and}
-use Rattle.embedding.proofs.Pieces.{no_work, stops_further, works_further}
+use Rattle.embedding.proofs.Pieces.{no_work, stops_further, then_worked, works_further}
 use Rattle.embedding.proofs.advancing.catch_up.Goals as goal
 
 pub loop-index-init : goal.loop-index-init
@@ -12,11 +12,15 @@ returns-in_err-catch_up_one-clause-refused g c =
 
 pub returns-then-branch-clause-done : goal.returns-then-branch-clause-done
 returns-then-branch-clause-done g c =
-    works_further c.args.leased.now c.loop-index.leased c.catch_up_one.new.leased c.loop-index.invariant c.in_ok-catch_up_one.ensures.done
+    works_further c.args.leased.now c.loop-index.leased c.catch_up_one.new.leased c.loop-index.invariant c.in_ok-catch_up_one.ensures.done.0
+
+pub returns-then-branch-clause-some : goal.returns-then-branch-clause-some
+returns-then-branch-clause-some g c told =
+    then_worked c.args.leased.now c.loop-index.leased c.catch_up_one.new.leased c.loop-index.invariant c.in_ok-catch_up_one.ensures.done
 
 pub loop-index-preserved : goal.loop-index-preserved
 loop-index-preserved g c =
-    works_further c.args.leased.now c.loop-index.leased c.catch_up_one.new.leased c.loop-index.invariant c.in_ok-catch_up_one.ensures.done
+    works_further c.args.leased.now c.loop-index.leased c.catch_up_one.new.leased c.loop-index.invariant c.in_ok-catch_up_one.ensures.done.0
 
 pub returns-clause-done : goal.returns-clause-done
 returns-clause-done g c = c.loop-index.invariant

@@ -1,11 +1,11 @@
 use Rattle.std.proofs.lemmas.Result.{err_from_is_err_and}
-use Rattle.embedding.proofs.Pieces.{stops_further, works_further}
+use Rattle.embedding.proofs.Pieces.{stops_further, worked_then}
 use Rattle.embedding.proofs.advancing.catch_up_one.Goals as goal
 
 pub returns-in_err-applied-clause-refused : goal.returns-in_err-applied-clause-refused
 returns-in_err-applied-clause-refused g c =
     let told = err_from_is_err_and c.from_residual-in_err-applied.result c.from_residual-in_err-applied.ensures.1 in
-    rw (told.1, told.2) (stops_further c.args.leased.now c.work.new.leased c.work-2.new.leased _ c.in_ok-fed.ensures.done c.in_err-applied.ensures.refused)
+    rw (told.1, told.2) (stops_further c.args.leased.now c.work.new.leased c.work-2.new.leased _ c.in_ok-fed.ensures.done.0 c.in_err-applied.ensures.refused)
 
 pub returns-clause-done : goal.returns-clause-done
-returns-clause-done g c = works_further c.args.leased.now c.work.new.leased c.work-2.new.leased c.in_ok-fed.ensures.done c.in_ok-applied.ensures.done
+returns-clause-done g c = worked_then c.args.leased.now c.work.new.leased c.work-2.new.leased c.in_ok-fed.ensures.done c.in_ok-applied.ensures.done.0

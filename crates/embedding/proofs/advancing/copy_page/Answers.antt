@@ -1,9 +1,9 @@
-use Rattle.embedding.proofs.Pieces.{stops_if_err, works_if_ok}
+use Rattle.embedding.proofs.Pieces.{stops_if_err, worked_if_ok}
 use Rattle.embedding.proofs.advancing.copy_page.Goals as goal
 
 pub returns-clause-done : goal.returns-clause-done
 returns-clause-done g c =
-    works_if_ok c.digest.result c.args.leased.now c.scan.new.leased c.digest.new.leased c.in_ok-scan.ensures.done c.digest.ensures.done
+    worked_if_ok c.digest.result c.args.leased.now c.scan.new.leased c.digest.new.leased c.in_ok-scan.ensures.done c.digest.ensures.done
 
 pub returns-clause-refused : goal.returns-clause-refused
 returns-clause-refused g c =

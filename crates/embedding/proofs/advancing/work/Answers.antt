@@ -1,7 +1,7 @@
 use Rattle.std.proofs.Common.{subst}
 use Rattle.build_events.specs.Steps.{Step}
 use Rattle.build_events.specs.declared.reply.Reply.{Reply}
-use Rattle.embedding.proofs.Pieces.{keeps_build, stops_once, works_once}
+use Rattle.embedding.proofs.Pieces.{keeps_build, stops_once, worked_once}
 use Rattle.embedding.proofs.advancing.work.Goals as goal
 
 pub step-requires : goal.step-requires
@@ -14,4 +14,4 @@ returns-in-Refused-clause-refused g c =
 
 pub returns-in_default : goal.returns-in_default
 returns-in_default g c =
-    record { done = works_once c.args.leased.now c.step.new.self c.args.event c.step.result c.requires c.step.ensures.step; refused = tt }
+    record { done = worked_once c.args.leased.now c.step.new.self c.args.event c.step.result c.requires c.in_default.not-Refused c.step.ensures.step; refused = tt }

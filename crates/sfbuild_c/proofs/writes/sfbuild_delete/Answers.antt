@@ -11,7 +11,7 @@ pub returns-in-Some-Written : goal.returns-in-Some-Written
 returns-in-Some-Written c =
     let number = c.in-Some-Written.field-0-0 in
     let rid = c.in-Some-Written.field-0-1 in
-    let told = answered_done (Delete c.args.txn c.rid-rid.result) c.in-Some-Written.field-0 c.args.session.now c.step.new.self c.in-Some-Written.ensures in (
+    let told = answered_done (Delete c.args.txn c.rid-rid.result) c.in-Some-Written.field-0 c.args.session.now c.step.new.self c.in-Some-Written.ensures.0 c.in-Some-Written.ensures.1 in (
       number,
       rid,
       subst (λ (at : Rid). Answered (Delete c.args.txn at) (Written number rid) 0 c.args.session.now c.step.new.self) c.rid-rid.ensures
@@ -22,7 +22,7 @@ pub returns-in-Some-Refused : goal.returns-in-Some-Refused
 returns-in-Some-Refused c =
     let event = Delete c.args.txn c.rid-rid.result in
     let reply = Written 0 c.rid-rid.result in
-    let refused = subst (λ (told : Reply). OnTable (Steps event told) c.args.session.now c.step.new.self) c.in-Some-Refused.field-0-is c.in-Some-Refused.ensures in (
+    let refused = subst (λ (told : Reply). OnTable (Steps event told) c.args.session.now c.step.new.self) c.in-Some-Refused.field-0-is c.in-Some-Refused.ensures.0 in (
       0,
       c.rid-rid.result,
       subst (λ (at : Rid). Answered (Delete c.args.txn at) reply c.tell.result c.args.session.now c.tell.new.self) c.rid-rid.ensures

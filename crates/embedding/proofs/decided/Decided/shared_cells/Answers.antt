@@ -5,6 +5,7 @@ use Rattle.heap_log.specs.declared.outcome.Outcome.{Outcome}
 use Rattle.build_events.specs.Verdicts.{HaveSharedKeys}
 use Rattle.embedding.specs.Decisions.{AreSharedCells}
 use Rattle.embedding.specs.KeptTables.{DecidedValue}
+use Rattle.embedding.proofs.SharedRows.{row_refusal-HasKey}
 use Rattle.embedding.proofs.Switches.{decided_spec, shared_key}
 use Rattle.embedding.proofs.decided.Decided.shared_cells.Goals as goal
 
@@ -25,3 +26,7 @@ returns-in_ok-cells-in-Some-clause-ok c =
     subst (λ (spec : Option KeySpecValue). AreSharedCells spec (slice_get c.args.self.now.verdicts c.args.index) cells) (sym c.in-Some.ensures)
     (subst (λ (verdict : Option Outcome). AreSharedCells (Some c.in-Some.spec.now) verdict cells) (sym (c.in-Some-Shared.ensures ∙ ap Some c.in-Some-Shared.field-0-is))
     c.in_ok-cells-in-Some.ensures.columns)
+
+pub returns-in_ok-cells-in-Some-clause-row : goal.returns-in_ok-cells-in-Some-clause-row
+returns-in_ok-cells-in-Some-clause-row c =
+    row_refusal-HasKey c.in-Some.spec.now _ c.in_ok-cells-in-Some.field-0.items c.in_ok-cells-in-Some.ensures.columns c.columns-columns.ensures.key

@@ -1,5 +1,5 @@
 use Rattle.embedding.specs.KeptTables.{KeptValue}
-use Rattle.embedding.specs.Pieces.{FailsToAdvance, WorksOn, WorksToTheEnd}
+use Rattle.embedding.specs.Pieces.{FailsToAdvance, HasWorked, WorksToTheEnd}
 use Rattle.std.proofs.Common.{◌≡◌, true, false}
 use Rattle.std.specs.Prelude.{IfErr, IfOk, IsSomeAnd, OnErr}
 use Rattle.build_events.specs.CoreState.{CoreState}
@@ -13,7 +13,7 @@ returns-clause-ready c =
 
 pub returns-clause-goes_on : goal.returns-clause-goes_on
 returns-clause-goes_on c =
-    on_kept (λ (k : KeptValue). IfOk c.advanced-table.result.1 (λ ready. ready ≡ false → WorksOn k.core c.advanced-table.result.0.core × (c.advanced-table.new.decided ≡ k.decided))) c.args.self.now c.self.inside.table c.self.inside.decided
+    on_kept (λ (k : KeptValue). IfOk c.advanced-table.result.1 (λ ready. ready ≡ false → HasWorked k.core c.advanced-table.result.0.core × (c.advanced-table.new.decided ≡ k.decided))) c.args.self.now c.self.inside.table c.self.inside.decided
     c.taken.result c.self.view_is c.taken.ensures c.advanced-table.ensures.goes_on
 
 pub returns-clause-refused : goal.returns-clause-refused

@@ -1,8 +1,9 @@
 use Rattle.build_events.specs.CoreState.{with_heap}
 use Rattle.heap_log.specs.Standing.{live_at}
 use Rattle.heap_table.specs.HeapState.{after_visit, row_missing}
+use Rattle.keybytes.specs.Cells.{fits}
 use Rattle.keybytes.specs.Faults.{RefusedFor}
-use Rattle.std.proofs.Common.{◌≡◌, Some}
+use Rattle.std.proofs.Common.{◌≡◌, true, Some}
 use Rattle.std.specs.Prelude.{IfErr, IfOk, OnErr, OnOk}
 use Rattle.build_events.specs.CoreState.{CoreState}
 use Rattle.embedding.proofs.Tables.{on_table}
@@ -12,6 +13,11 @@ pub returns-clause-ok : goal.returns-clause-ok
 returns-clause-ok c =
     on_table (λ (s : CoreState). IfOk c.row_at-table.result.1 (λ row. live_at s.live.heap.log c.args.rid ≡ Some row)) c.args.self.now c.self.inside.table c.self.inside.decided
     c.taken.result c.self.view_is c.taken.ensures c.row_at-table.ensures.ok
+
+pub returns-clause-fits : goal.returns-clause-fits
+returns-clause-fits c =
+    on_table (λ (s : CoreState). IfOk c.row_at-table.result.1 (λ row. fits s.live.heap.schema row ≡ true)) c.args.self.now c.self.inside.table c.self.inside.decided
+    c.taken.result c.self.view_is c.taken.ensures c.row_at-table.ensures.fits
 
 pub returns-clause-visited : goal.returns-clause-visited
 returns-clause-visited c =
