@@ -173,7 +173,8 @@ pub extern "C" fn sfbuild_start(
     quota: usize,
     pages: &mut u32,
 ) -> u8
-    ensures told { Answers (StartsBuild indexes.now workers ranges quota pages.new) (RefusesBuild indexes.now workers ranges quota) result session.old session.new }
+    ensures told { Answers (StartsBuild indexes.now workers ranges quota pages.new) (RefusesBuild indexes.now workers ranges quota)
+        result session.old session.new }
     ensures kept { UnlessDone result (pages.new ≡ pages.old) }
 {
     let Some(mut table) = session.take(alloc) else {

@@ -1,6 +1,6 @@
 //! Indexes that are to be built, as C names them.
-
-ghost use Rattle.std.specs.Prelude.{◌≡◌, ◌⊎◌, ◌≤◌, ◌<◌, ◌++◌, ◌∷◌, [], ℕ, Bool, List, length, nat_eq, take, MatchOption, IfSome, OnOk, IfOk, IfErr};
+ghost use Rattle.std.specs.Prelude.{◌≡◌, ◌⊎◌, ◌≤◌, ◌<◌, ◌++◌, ◌∷◌, [], ℕ, Bool, List, length, nat_eq, take};
+ghost use Rattle.std.specs.Prelude.{MatchOption, IfSome, OnOk, IfOk, IfErr};
 ghost use Rattle.std.specs.List.{flat_map, list_any};
 ghost use Rattle.keybytes.specs.Keys.{KeySpecValue, are_key_columns};
 ghost use Rattle.keybytes.specs.declared.key_col.KeyCol.{KeyCol};

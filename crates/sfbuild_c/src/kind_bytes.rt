@@ -1,5 +1,4 @@
 //! The kinds of a table's columns, as C names them.
-
 ghost use Rattle.std.specs.Prelude.{◌≡◌, ◌⊎◌, MatchOption, OnOk, IfOk, IfErr};
 ghost use Rattle.keybytes.specs.declared.kind.Kind.{Kind};
 ghost use Rattle.sfbuild_c.specs.KindBytes.{SpellsKinds, RefusesKinds, SpellsTable, kind_byte};

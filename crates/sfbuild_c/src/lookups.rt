@@ -40,7 +40,8 @@ pub extern "C" fn sfbuild_key(
     key: &mut [u8],
     length: &mut usize,
 ) -> u8
-    ensures told { Tells (HandsOutKey index columns row.now key.old result key.new length.new) (RefusesKey index columns row.now) result session.old session.new }
+    ensures told { Tells (HandsOutKey index columns row.now key.old result key.new length.new) (RefusesKey index columns row.now)
+        result session.old session.new }
     ensures kept { UnlessTold result ((key.new ≡ key.old) × (length.new ≡ length.old)) }
 {
     let Some(mut table) = session.take(alloc) else {

@@ -45,7 +45,8 @@ pub extern "C" fn sfbuild_verdict(
     cells: &mut [u8],
     length: &mut usize,
 ) -> u8
-    ensures told { Tells (TellsVerdict index cells.old verdict.old result verdict.new cells.new length.new) (HasNoVerdict index) result session.old session.new }
+    ensures told { Tells (TellsVerdict index cells.old verdict.old result verdict.new cells.new length.new) (HasNoVerdict index)
+        result session.old session.new }
     ensures kept { UnlessTold result ((verdict.new ≡ verdict.old) × (cells.new ≡ cells.old) × (length.new ≡ length.old)) }
 {
     let Some(table) = session.take(alloc) else {

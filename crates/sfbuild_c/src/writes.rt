@@ -38,7 +38,8 @@ pub extern "C" fn sfbuild_insert(
     row: &[u8],
     at: &mut Place,
 ) -> u8
-    ensures told { WithRow row.now (λ cells status old new. (number : ℕ) × Answered (Event.Insert txn cells) (Reply.Written number (rid_of at.new)) status old new)
+    ensures told { WithRow row.now
+        (λ cells status old new. (number : ℕ) × Answered (Event.Insert txn cells) (Reply.Written number (rid_of at.new)) status old new)
         result session.old session.new }
     ensures kept { UnlessDone result (at.new ≡ at.old) }
 {
