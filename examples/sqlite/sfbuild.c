@@ -1,5 +1,5 @@
 /* Tables of sfbuild in SQLite, as virtual tables: README.md beside this file says how they are used and what they don't offer.
- * This is plain C and unproved; what is proved lies below the calls of sfbuild.h. SQLite makes one call at a time on what a connection has. */
+ * This is plain C and unproved; what is proved are the calls of sfbuild.h and what lies below. SQLite makes one call at a time on what a connection has. */
 #include "table.h"
 SQLITE_EXTENSION_INIT1
 

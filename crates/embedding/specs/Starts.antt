@@ -13,11 +13,11 @@ abbrev pub quota_most : ℕ
 quota_most = 1024
 
 -- why no spools are made for a build: one runs, or its workers, its indexes or the pages of a spool are too many
-abbrev pub spools_refusal : ℕ → Plan → CoreState → Option Fault
-spools_refusal quota plan s =
+abbrev pub start_limits_refusal : ℕ → Plan → CoreState → Option Fault
+start_limits_refusal quota plan s =
     first_cause (cause_if (is_some s.live.build) BuildRunning)
     (cause_if (not (nat_le plan.workers workers_most && nat_le (length plan.specs.items) indexes_most && nat_le quota quota_most)) BadCount)
 
 -- a build does not start for that fault
 abbrev pub RefusesStart : ℕ → Plan → CoreState → Fault → Type 0
-RefusesStart quota plan s fault = MatchOption (spools_refusal quota plan s) (FailsToStart quota plan s fault) (λ cause. fault ≡ cause)
+RefusesStart quota plan s fault = MatchOption (start_limits_refusal quota plan s) (FailsToStart quota plan s fault) (λ cause. fault ≡ cause)

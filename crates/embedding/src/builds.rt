@@ -3,7 +3,7 @@ ghost use Rattle.std.specs.Prelude.{◌≡◌, true, None, is_some, IfOk, IfErr,
 ghost use Rattle.build_events.specs.Steps.{Step};
 ghost use Rattle.leased_core.specs.Leasing.{EndsBuild, StartsOver};
 ghost use Rattle.embedding.specs.Decisions.{Decides, FailsToDecide};
-ghost use Rattle.embedding.specs.Starts.{RefusesStart, spools_refusal};
+ghost use Rattle.embedding.specs.Starts.{RefusesStart, start_limits_refusal};
 
 use crate::Kept;
 use crate::decided::Decided;
@@ -23,7 +23,7 @@ impl Kept {
     /// starts none. Where that is refused the spools are given up again.
     pub fn start(&mut self, choice: SpoolChoice, quota: usize, plan: Plan) -> Result<u32, Fault>
         ensures started { IfOk result (λ pages. StartsOver quota plan self.old.core (Reply.Started pages) self.new.core) }
-        ensures accepted { OnOk result (spools_refusal quota plan self.old.core ≡ None) }
+        ensures accepted { OnOk result (start_limits_refusal quota plan self.old.core ≡ None) }
         ensures refused { IfErr result (RefusesStart quota plan self.old.core) }
         ensures unchanged { OnErr result (self.new ≡ self.old) }
         ensures decided { self.new.decided ≡ self.old.decided }
@@ -68,7 +68,7 @@ fn started<T: Table>(
     requires pages { table.pages ≡ T.pages }
     requires sides { table.sides ≡ T.sides }
     ensures started { IfOk result.1 (λ pages. StartsOver quota plan table.core (Reply.Started pages) result.0.core) }
-    ensures accepted { OnOk result.1 (spools_refusal quota plan table.core ≡ None) }
+    ensures accepted { OnOk result.1 (start_limits_refusal quota plan table.core ≡ None) }
     ensures refused { IfErr result.1 (RefusesStart quota plan table.core) }
     ensures unchanged { OnErr result.1 (result.0.core ≡ table.core) }
 {
@@ -85,7 +85,7 @@ fn start_in_limits<T: Table>(
     plan: Plan,
 ) -> Result<u32, Fault>
     ensures started { IfOk result (λ pages. StartsOver quota plan leased.old (Reply.Started pages) leased.new) }
-    ensures accepted { OnOk result (spools_refusal quota plan leased.old ≡ None) }
+    ensures accepted { OnOk result (start_limits_refusal quota plan leased.old ≡ None) }
     ensures refused { IfErr result (RefusesStart quota plan leased.old) }
     ensures unchanged { OnErr result (leased.new ≡ leased.old) }
 {

@@ -9,11 +9,11 @@
  * Proved, for whatever list of calls: no call reads or writes beyond what is described here, each call returns and does
  * and answers what its definition says, and an index that becomes ready has one pair, key and address, of each row that
  * stands, and no other. Only tested is which of its faults a piece of a build (sfbuild_step) answers, that it gets on
- * each time, that NO_PAGE comes only of a full quota, and the pages that sfbuild_progress tells. (docs/C.md,
- * docs/PROMISES.md.) What the program has to keep, since nothing can check it:
+ * each time, that NO_PAGE comes only of a full quota, the pages that sfbuild_progress tells, and that sfbuild_close
+ * frees all. (docs/C.md, docs/PROMISES.md.) What the program has to keep, since nothing can check it:
  *
- * - Pointers aren't null, point to what they are said to, and not into one another. Lengths are true. Also for no
- *   bytes the pointer isn't null.
+ * - Pointers aren't null, point to what they are said to, and not into one another. Lengths are true. A pointer to
+ *   no bytes isn't null either, except where a helper says that it may be.
  * - An `sfbuild` is all zero before it is opened, and only the library writes it. It may be moved, but not copied
  *   with both copies used.
  * - No call is made from a signal handler, or in a child that forked off a process with threads.
@@ -48,7 +48,8 @@ extern "C" {
  * ROOM writes `*length`; one that is refused changes nothing but `cause`, except where its refusal says otherwise. Each
  * call of a table that isn't open answers SFBUILD_CLOSED, and each call that takes memory SFBUILD_MEMORY where there is
  * none, and nothing else refuses it. But some memory is taken before the last cause is asked for: for the bytes of a row
- * or of indexes once they are read; at a start also for its spools; at a switch for what it decides, once a build runs.
+ * or of indexes once they are read; at a start also for its spools; at a switch for what it decides, once a build runs;
+ * and MEMORY may come before ROOM and END.
  */
 enum {
     SFBUILD_DONE = 0,
@@ -57,7 +58,7 @@ enum {
     SFBUILD_END = 3,            /* there is no further pair */
     SFBUILD_ROOM = 4,           /* the buffer is too small; the length that is wanted was written */
 
-    SFBUILD_BAD_COLUMN = 10,    /* a column isn't there or named twice, there are too few or too many, or bytes spell none */
+    SFBUILD_BAD_COLUMN = 10,    /* a column isn't there or named twice, there are too few or too many, or the bytes are of none */
     SFBUILD_TEXT_TOO_LONG = 11, /* a text of a row has more than SFBUILD_TEXT_MAX bytes */
     SFBUILD_ROW_SHAPE = 12,     /* the bytes spell no row of the table */
     SFBUILD_TABLE_FULL = 20,    /* no page takes the row, and the table may have no more */
@@ -164,7 +165,7 @@ uint8_t sfbuild_start(sfbuild *table, const uint8_t *indexes, size_t length, siz
 /* Does the next piece of the build: copies a page and takes the keys of it, or seals a worker, or puts the pairs of
  * an index in order, or applies at most `most` changes (1 to 256, or the nearest of these), or switches. `*ready`
  * tells whether it switched: then the build has ended, and sfbuild_verdict tells of each index. NO_BUILD; what the
- * piece answers (below). After BUSY it can be asked again: the build waits for transactions to end. Where MEMORY or
+ * piece answers (below), and what was done before that stays done. After BUSY it can be asked again: the build waits for transactions to end. Where MEMORY or
  * NO_PAGE spoiled the build, each piece answers so from then on: give it up by sfbuild_abandon. (MEMORY of a copy, of
  * changes or of a switch spoils nothing.) */
 uint8_t sfbuild_step(sfbuild *table, size_t most, bool *ready);
@@ -219,7 +220,8 @@ typedef struct {
 } sfbuild_verdict_of;
 
 /* Tells it of index `index` of the build, from 0. Of a refused one the cells of the shared key are written as the
- * bytes of a row of the key's columns, of a ready one no bytes. BAD_COUNT; ROOM. */
+ * bytes of a row of the key's columns, of a ready one no bytes. BAD_COUNT; ROOM, and then
+ * the verdict isn't told either: SFBUILD_CELLS_MAX bytes are always enough. */
 uint8_t sfbuild_verdict(sfbuild *table, size_t index, sfbuild_verdict_of *verdict, uint8_t *cells, size_t room,
                         size_t *length);
 
@@ -233,8 +235,8 @@ typedef struct {
 
 uint8_t sfbuild_progress(sfbuild *table, sfbuild_progress_of *progress);
 
-/* ---- Ready indexes. Each follows every write and every undo. Its pairs, keys and addresses, are in the order of
- * their bytes. ---- */
+/* ---- Ready indexes. Each follows every write and every undo. Its pairs are in the order of the bytes of their
+ * keys, those of one key by page, then by slot. ---- */
 
 /* How many there are, numbered from 0. */
 uint8_t sfbuild_ready(sfbuild *table, size_t *indexes);
@@ -370,8 +372,8 @@ typedef struct {
     bool past;
 } sfbuild_cursor;
 
-/* Begins at the first pair whose key isn't before these bytes, at most SFBUILD_KEY_MAX; with none at the first of
- * all. */
+/* Begins at the first pair whose key isn't before these bytes, at most SFBUILD_KEY_MAX; with none, where `key` may
+ * be NULL, at the first of all. */
 static inline void sfbuild_cursor_from(sfbuild_cursor *cursor, size_t index, const uint8_t *key, size_t length)
 {
     sfbuild_rid first = {0, 0};
@@ -384,7 +386,8 @@ static inline void sfbuild_cursor_from(sfbuild_cursor *cursor, size_t index, con
 }
 
 /* Goes to the next pair whose key is before the bytes `high`, or to the next one where these are NULL, and leaves it
- * in `key`, `length` and `rid`. END where there is none; what sfbuild_next answers. */
+ * in `key`, `length` and `rid`. END where there is none; what sfbuild_next answers. Behind END
+ * at a bound the cursor is past the first pair beyond it: begin anew for another range. */
 static inline uint8_t sfbuild_cursor_next(sfbuild *table, sfbuild_cursor *cursor, const uint8_t *high,
                                           size_t high_length)
 {

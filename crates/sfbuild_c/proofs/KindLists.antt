@@ -1,5 +1,5 @@
 -- Lists of kinds and the bytes that stand for them.
-use Rattle.std.proofs.Common.{◌≡◌, ◌⊎◌, ℕ, ◌+◌, ◌<◌, ◌≤◌, true, false, List, [], ◌∷◌, ◌++◌, length, get_or, take, sym, ap, ap₂, ◌∙◌, arith}
+use Rattle.std.proofs.Common.{◌≡◌, ℕ, ◌+◌, ◌<◌, ◌≤◌, true, false, List, [], ◌∷◌, ◌++◌, length, get_or, take, sym, ap, ap₂, ◌∙◌, arith}
 use Rattle.std.proofs.Common.{Option, Some, None, Result, Ok, Err, MatchOption, OnOk, IfOk, IfErr, rules}
 use Rattle.std.specs.Prelude.{map, nat_lt, nat_le, ◌&&◌, if◌then◌else◌}
 use Rattle.std.specs.Option.{is_some}
@@ -9,7 +9,7 @@ use Rattle.keybytes.specs.declared.fault.Fault.{Fault}
 use Rattle.keybytes.specs.declared.fault.Fault.TheVariants.{BadColumn, Memory}
 use Rattle.keybytes.specs.declared.kind.Kind.{Kind}
 use Rattle.keybytes.specs.declared.kind.Kind.TheVariants.{Int}
-use Rattle.sfbuild_c.specs.KindBytes.{kind_byte, SpellsKinds, SpellsTable, RefusesKinds}
+use Rattle.sfbuild_c.specs.KindBytes.{kind_byte, SpellsKinds, SpellsTable}
 
 -- whether the byte stands for a kind, as it is looked for
 abbrev pub Stands : ℕ → Option Kind → Type 0
@@ -67,7 +67,7 @@ read_ok bytes kinds (Err fault) e same columns = search rules
 -- a schema of kinds that were looked at before is not refused
 pub read_refused :
     (bytes : List ℕ) (kinds : List Kind) (made : Result (List Kind) Fault) → SpellsTable bytes → map kind_byte kinds ≡ bytes
-    → IfErr made (λ fault. columns_refusal kinds ≡ Some fault) → IfErr made (λ fault. RefusesKinds bytes fault ⊎ (fault ≡ Memory))
+    → IfErr made (λ fault. columns_refusal kinds ≡ Some fault) → IfErr made (λ fault. fault ≡ Memory)
 unfolding refusal_of
 read_refused bytes kinds (Ok schema) table e refused = search rules
 read_refused bytes kinds (Err fault) table e refused =

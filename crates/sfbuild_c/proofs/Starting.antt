@@ -1,12 +1,12 @@
 -- A build starts, or doesn't, as the table says to which it was handed on.
-use Rattle.std.proofs.Common.{◌≡◌, ℕ, Bool, true, false, List, Option, None, Some, is_some, Result, Ok, Err, IfOk, IfErr, OnOk, OnErr, refl, subst, ◌∙◌, inr}
+use Rattle.std.proofs.Common.{◌≡◌, ℕ, false, List, Option, None, Some, is_some, Result, Ok, Err, IfOk, IfErr, OnOk, OnErr, refl, subst, ◌∙◌, inr}
 use Rattle.keybytes.specs.declared.fault.Fault.{Fault}
 use Rattle.keybytes.specs.declared.kind.Kind.{Kind}
 use Rattle.build_events.specs.declared.plan.Plan.{Plan}
 use Rattle.build_events.specs.declared.reply.Reply.TheVariants.{Started}
 use Rattle.leased_core.specs.Leasing.{StartsOver}
 use Rattle.embedding.specs.KeptTables.{KeptValue}
-use Rattle.embedding.specs.Starts.{RefusesStart, spools_refusal}
+use Rattle.embedding.specs.Starts.{RefusesStart, start_limits_refusal}
 use Rattle.sfbuild_c.specs.Building.{IsAskedFor, RefusesBuild, StartsBuild}
 
 pub none_there : {A : Type 0} → (o : Option A) → is_some o ≡ false → o ≡ None
@@ -16,14 +16,14 @@ none_there (Some x) none = cc
 pub starts :
     (bytes : List ℕ) (workers ranges quota : ℕ) (told : Result ℕ Fault) (plan : Plan) (kinds : List Kind) (mid before after : KeptValue)
     → mid ≡ before → kinds ≡ before.core.live.heap.schema → IsAskedFor kinds bytes workers ranges plan
-    → IfOk told (λ pages. StartsOver quota plan mid.core (Started pages) after.core) → OnOk told (spools_refusal quota plan mid.core ≡ None)
+    → IfOk told (λ pages. StartsOver quota plan mid.core (Started pages) after.core) → OnOk told (start_limits_refusal quota plan mid.core ≡ None)
     → after.decided ≡ mid.decided → IfOk told (λ pages. StartsBuild bytes workers ranges quota pages before after)
 starts bytes workers ranges quota (Ok pages) plan kinds mid before after same of asked started accepted decided = (
   subst (λ (kept : KeptValue). after.decided ≡ kept.decided) same decided,
   (
     plan,
     subst (λ (columns : List Kind). IsAskedFor columns bytes workers ranges plan) of asked,
-    subst (λ (kept : KeptValue). spools_refusal quota plan kept.core ≡ None) same accepted,
+    subst (λ (kept : KeptValue). start_limits_refusal quota plan kept.core ≡ None) same accepted,
     subst (λ (kept : KeptValue). StartsOver quota plan kept.core (Started pages) after.core) same started,
   ),
 )

@@ -16,7 +16,7 @@ use Rattle.sfbuild_c.specs.declared.session.Session.{Session}
 abbrev pub KeepsCause : Session → Session → Type 0
 KeepsCause old new = new.cause ≡ old.cause
 
--- no table is open, before or after
+-- no table is open, before or after, and what the newest refusal said stays
 abbrev pub IsClosed : Session → Session → Type 0
 IsClosed old new = (old.held.table ≡ None) × (new.held.table ≡ None) × KeepsCause old new
 
@@ -34,7 +34,7 @@ abbrev pub IsNotDone : (Fault → KeptValue → KeptValue → Type 0) → ℕ �
 IsNotDone Refuses status old new =
     ((status ≡ 1) × IsClosed old new) ⊎ ((fault : Fault) × TellsFault status fault new × OnTable (Refuses fault) old new)
 
--- a call does this to the table, or it is not done
+-- a call does this to the table, and what the newest refusal said stays; or it is not done
 abbrev pub Tells : (KeptValue → KeptValue → Type 0) → (Fault → KeptValue → KeptValue → Type 0) → ℕ → Session → Session → Type 0
 Tells Does Refuses status old new = (OnTable Does old new × KeepsCause old new) ⊎ IsNotDone Refuses status old new
 

@@ -11,7 +11,7 @@ use Rattle.leased_core.specs.Leasing.{EndsBuild, StartsOver}
 use Rattle.embedding.specs.Decisions.{Decides, FailsToDecide, verdicts_in}
 use Rattle.embedding.specs.KeptTables.{KeptValue}
 use Rattle.embedding.specs.Pieces.{FailsToAdvance, HasWorked, WorksToTheEnd}
-use Rattle.embedding.specs.Starts.{RefusesStart, spools_refusal}
+use Rattle.embedding.specs.Starts.{RefusesStart, start_limits_refusal}
 use Rattle.sfbuild_c.specs.IndexBytes.{RefusesIndexes, SpellsIndexes}
 
 -- a build of the indexes that the bytes spell, with so many workers and ranges
@@ -25,7 +25,7 @@ abbrev pub StartsBuild : List ℕ → ℕ → ℕ → ℕ → ℕ → KeptValue 
 StartsBuild bytes workers ranges quota pages before after =
     (after.decided ≡ before.decided)
     × ((plan : Plan) × IsAskedFor before.core.live.heap.schema bytes workers ranges plan
-    × (spools_refusal quota plan before.core ≡ None) × StartsOver quota plan before.core (Started pages) after.core)
+    × (start_limits_refusal quota plan before.core ≡ None) × StartsOver quota plan before.core (Started pages) after.core)
 
 -- it doesn't: a build runs; or the bytes aren't those of indexes, or there is no memory for these; or the start is refused
 abbrev pub RefusesBuild : List ℕ → ℕ → ℕ → ℕ → Fault → KeptValue → KeptValue → Type 0

@@ -24,9 +24,9 @@ pub record IsSoFar (told : ProgressOf) (before after : KeptValue) : Type 0 where
   pub waiting : told.waiting ≡ min (all_unfed before.core.live) 18446744073709551615
 
 -- how C sees a verdict: what it doesn't name is 0
-abbrev pub verdict_of : Outcome → VerdictOf
-verdict_of (Ready number) = record { ready = true; number = number; first = no_place; second = no_place }
-verdict_of (Shared key first second) = record { ready = false; number = 0; first = place_of first; second = place_of second }
+abbrev pub as_verdict : Outcome → VerdictOf
+as_verdict (Ready number) = record { ready = true; number = number; first = no_place; second = no_place }
+as_verdict (Shared key first second) = record { ready = false; number = 0; first = place_of first; second = place_of second }
 
 -- these are the cells of the key that rows share, for which the index was refused; none of an index that wasn't
 abbrev pub AreCellsOf : ℕ → KeptValue → List Cell → Type 0
@@ -47,7 +47,7 @@ abbrev pub TellsVerdict : ℕ → List ℕ → VerdictOf → ℕ → VerdictOf �
 TellsVerdict index room old status new new_room size before after =
     (after ≡ before)
     × ((verdict : Outcome) × (bytes : List ℕ) × IsVerdictOf index before verdict bytes × HandsOut bytes room status new_room size
-    × ((status ≡ 0) → new ≡ verdict_of verdict) × ((status ≡ 4) → new ≡ old))
+    × ((status ≡ 0) → new ≡ as_verdict verdict) × ((status ≡ 4) → new ≡ old))
 
 -- why there is no verdict
 abbrev pub verdict_refusal : Option Outcome → Option Fault

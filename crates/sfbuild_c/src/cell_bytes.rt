@@ -7,7 +7,7 @@ use keybytes::{Cell, Fault, Kind, Row, Schema};
 use std::alloc::Global;
 
 /// The bytes of a row of these cells, whatever their kinds.
-pub(crate) fn cell_bytes(alloc: Global, cells: Vec<Cell>) -> Result<Vec<u8>, Fault>
+pub(crate) fn bytes_of_cells(alloc: Global, cells: Vec<Cell>) -> Result<Vec<u8>, Fault>
     requires { row_refusal cells.items ≡ None }
     ensures ok { IfOk result (λ bytes. bytes.items ≡ row_bytes cells.items) }
     ensures memory { IfErr result (λ fault. fault ≡ Fault.Memory) }
@@ -23,13 +23,13 @@ fn kinds_of(alloc: Global, cells: &[Cell]) -> Result<Vec<Kind>, Fault>
 {
     let mut kinds = Vec::with_capacity(alloc, cells.len())?;
     for cell in cells {
-        kinds.push(kind_of(cell))?;
+        kinds.push(kind_that_takes(cell))?;
     }
     Ok(kinds)
 }
 
 /// The kind of a column that takes the cell.
-fn kind_of(cell: &Cell) -> Kind
+fn kind_that_takes(cell: &Cell) -> Kind
     ensures { fits_kind result cell.now ≡ true }
 {
     match cell {

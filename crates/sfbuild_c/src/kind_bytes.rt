@@ -1,5 +1,5 @@
 //! The kinds of a table's columns, as C names them.
-ghost use Rattle.std.specs.Prelude.{◌≡◌, ◌⊎◌, MatchOption, OnOk, IfOk, IfErr};
+ghost use Rattle.std.specs.Prelude.{◌≡◌, MatchOption, OnOk, IfOk, IfErr};
 ghost use Rattle.keybytes.specs.declared.kind.Kind.{Kind};
 ghost use Rattle.sfbuild_c.specs.KindBytes.{SpellsKinds, RefusesKinds, SpellsTable, kind_byte};
 
@@ -22,17 +22,17 @@ pub(crate) fn check_kinds(bytes: &[u8]) -> Result<(), Fault>
     Ok(())
 }
 
-/// The columns that bytes stand for, a byte each. Other bytes, none or too many are [`Fault::BadColumn`], before any memory is asked for.
+/// The columns that bytes stand for, a byte each, or [`Fault::Memory`].
 pub(crate) fn read_kinds(alloc: Global, bytes: &[u8]) -> Result<Schema, Fault>
+    requires { SpellsTable bytes.now }
     ensures ok { IfOk result (SpellsKinds bytes.now) }
-    ensures refused { IfErr result (λ fault. RefusesKinds bytes.now fault ⊎ (fault ≡ Fault.Memory)) }
+    ensures memory { IfErr result (λ fault. fault ≡ Fault.Memory) }
 {
-    check_kinds(bytes)?;
     let mut kinds = Vec::with_capacity(alloc, bytes.len())?;
     for byte in bytes {
         match kind_of(*byte) {
             Some(kind) => kinds.push_reserved(kind),
-            None => return Err(Fault::BadColumn),
+            None => unreachable!(),
         }
     }
     Schema::new(kinds)

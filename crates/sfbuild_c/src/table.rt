@@ -1,6 +1,5 @@
 //! The table itself: it is opened and closed.
 ghost use Rattle.std.specs.Prelude.{◌≡◌, None, Some, IfOk, IfErr, OnOk};
-ghost use Rattle.keybytes.specs.Faults.{RefusedFor};
 ghost use Rattle.heap_table.specs.HeapState.{empty_heap, limits_refusal};
 ghost use Rattle.embedding.specs.KeptTables.{new_table};
 ghost use Rattle.sfbuild_c.specs.Opening.{Closes, IsNew, Opens, RefusesTable};
@@ -27,7 +26,7 @@ pub extern "C" fn sfbuild_open(
     if session.is_open() {
         return OPENED;
     }
-    match new_table(alloc, kinds, slots_a_page, pages) {
+    match made_table(alloc, kinds, slots_a_page, pages) {
         Ok(table) => {
             session.put(table);
             DONE
@@ -51,7 +50,7 @@ pub extern "C" fn sfbuild_close(alloc: Global, session: &mut Session) -> u8
 }
 
 /// A box with a new table. What the bytes and the limits refuse is told before memory is asked for.
-fn new_table(alloc: Global, kinds: &[u8], slots_a_page: u8, pages: u32) -> Result<Box<Kept>, Fault>
+fn made_table(alloc: Global, kinds: &[u8], slots_a_page: u8, pages: u32) -> Result<Box<Kept>, Fault>
     ensures ok { IfOk result (λ table. IsNew kinds.now slots_a_page pages table.value) }
     ensures refused { IfErr result (RefusesTable kinds.now slots_a_page pages) }
 {
@@ -61,7 +60,7 @@ fn new_table(alloc: Global, kinds: &[u8], slots_a_page: u8, pages: u32) -> Resul
     boxed_table(alloc, schema, slots_a_page, pages)
 }
 
-/// Refuses the limits of no table, by making one of some column, which takes no memory.
+/// Refuses limits that no table may have, by making one of some column, which takes no memory.
 fn check_limits(alloc: Global, slots_a_page: u8, pages: u32) -> Result<(), Fault>
     ensures accepted { OnOk result (limits_refusal slots_a_page pages ≡ None) }
     ensures refused { IfErr result (λ fault. limits_refusal slots_a_page pages ≡ Some fault) }
@@ -77,9 +76,9 @@ fn boxed_table(
     slots_a_page: u8,
     pages: u32,
 ) -> Result<Box<Kept>, Fault>
+    requires { limits_refusal slots_a_page pages ≡ None }
     ensures ok { IfOk result (λ table. table.value ≡ record { core = new_table (empty_heap schema slots_a_page pages); decided = None }) }
-    ensures accepted { OnOk result (limits_refusal slots_a_page pages ≡ None) }
-    ensures refused { IfErr result (RefusedFor (limits_refusal slots_a_page pages)) }
+    ensures memory { IfErr result (λ fault. fault ≡ Fault.Memory) }
 {
     let heap = Heap::new(alloc, schema, slots_a_page, pages)?;
     match Kept::new(alloc, heap) {

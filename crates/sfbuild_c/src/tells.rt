@@ -5,10 +5,10 @@ ghost use Rattle.heap_log.specs.declared.outcome.Outcome.{Outcome};
 ghost use Rattle.embedding.specs.Decisions.{verdicts_in};
 ghost use Rattle.sfbuild_c.specs.Answers.{Answers, Tells, UnlessDone, UnlessTold};
 ghost use Rattle.sfbuild_c.specs.Reading.{RefusesNothing};
-ghost use Rattle.sfbuild_c.specs.Telling.{AreBytesOf, HasNoVerdict, IsSoFar, IsVerdictOf, TellsVerdict, verdict_of, verdict_refusal};
+ghost use Rattle.sfbuild_c.specs.Telling.{AreBytesOf, HasNoVerdict, IsSoFar, IsVerdictOf, TellsVerdict, as_verdict, verdict_refusal};
 
 use crate::buffer::hand_out;
-use crate::cell_bytes::cell_bytes;
+use crate::cell_bytes::bytes_of_cells;
 use crate::progress::ProgressOf;
 use crate::session::Session;
 use crate::status::{CLOSED, DONE};
@@ -68,7 +68,7 @@ pub extern "C" fn sfbuild_verdict(
 
 /// What was decided of an index, and the bytes of the cells of the key that rows share.
 fn told_of(table: &Kept, alloc: Global, index: usize) -> Result<(VerdictOf, Vec<u8>), Fault>
-    ensures ok { IfOk result (λ told. (verdict : Outcome) × (told.0 ≡ verdict_of verdict) × IsVerdictOf index table.now verdict told.1.items) }
+    ensures ok { IfOk result (λ told. (verdict : Outcome) × (told.0 ≡ as_verdict verdict) × IsVerdictOf index table.now verdict told.1.items) }
     ensures refused { IfErr result (RefusedFor (verdict_refusal (slice_get (verdicts_in table.now.decided) index))) }
 {
     let Some(verdict) = table.verdict(index) else {
@@ -84,7 +84,7 @@ fn shared_bytes(table: &Kept, alloc: Global, index: usize) -> Result<Vec<u8>, Fa
     ensures memory { IfErr result (λ fault. fault ≡ Fault.Memory) }
 {
     match table.shared_cells(index)? {
-        Some(cells) => cell_bytes(alloc, cells),
+        Some(cells) => bytes_of_cells(alloc, cells),
         None => Ok(Vec::new(alloc)),
     }
 }

@@ -1,5 +1,5 @@
 ghost use Rattle.std.specs.Prelude.{◌≡◌};
-ghost use Rattle.sfbuild_c.specs.Telling.{verdict_of};
+ghost use Rattle.sfbuild_c.specs.Telling.{as_verdict};
 
 use crate::place::Place;
 use heap_log::Outcome;
@@ -16,7 +16,7 @@ pub struct VerdictOf {
 
 impl VerdictOf {
     pub(crate) fn of(verdict: &Outcome) -> VerdictOf
-        ensures { result ≡ verdict_of verdict.now }
+        ensures { result ≡ as_verdict verdict.now }
     {
         let none = Place { page: 0, slot: 0 };
         match verdict {

@@ -1,4 +1,4 @@
-use Rattle.std.proofs.Common.{◌≡◌, ◌≤◌, inl, length, refl, sym, ap, ◌∙◌, arith, take_all}
+use Rattle.std.proofs.Common.{◌≡◌, ◌≤◌, length, sym, ap, ◌∙◌, arith, take_all}
 use Rattle.std.specs.Prelude.{map}
 use Rattle.std.proofs.lemmas.List.{length-map, length-take-le}
 use Rattle.std.proofs.lemmas.Grind.{common_steps}
@@ -16,8 +16,8 @@ push_reserved-requires c =
     ∙ (ap length c.loop-byte.invariant.read ∙ length-take-le c.loop-byte.byte-index c.args.bytes.now (omega arith)) in
     grind (arith, common_steps, read)
 
-pub returns-in-None-clause-refused : goal.returns-in-None-clause-refused
-returns-in-None-clause-refused c = inl (refl, no_table c.args.bytes.now c.loop-byte.byte-index c.loop-byte-test.true c.in-None.ensures)
+pub unreachable-requires : goal.unreachable-requires
+unreachable-requires c = no_table c.args.bytes.now c.loop-byte.byte-index c.loop-byte-test.true c.in-None.ensures c.requires
 
 pub loop-byte-preserved : goal.loop-byte-preserved
 loop-byte-preserved c = record {
@@ -34,9 +34,9 @@ returns-clause-ok c =
     let read = c.loop-byte.invariant.read ∙ take_all c.loop-byte.byte-index bytes end in
     read_ok bytes c.loop-byte.kinds.items c.new.result read c.new.ensures.ok c.new.ensures.accepted
 
-pub returns-clause-refused : goal.returns-clause-refused
-returns-clause-refused c =
+pub returns-clause-memory : goal.returns-clause-memory
+returns-clause-memory c =
     let bytes = c.args.bytes.now in
     let end : length bytes ≤ c.loop-byte.byte-index = omega arith in
     let read = c.loop-byte.invariant.read ∙ take_all c.loop-byte.byte-index bytes end in
-    read_refused bytes c.loop-byte.kinds.items c.new.result c.in_ok-check_kinds.ensures.accepted read c.new.ensures.refused
+    read_refused bytes c.loop-byte.kinds.items c.new.result c.requires read c.new.ensures.refused

@@ -1,5 +1,5 @@
 use Rattle.build_events.specs.declared.reply.Reply.TheVariants.{Started}
-use Rattle.embedding.specs.Starts.{RefusesStart, spools_refusal}
+use Rattle.embedding.specs.Starts.{RefusesStart, start_limits_refusal}
 use Rattle.leased_core.specs.Leasing.{StartsOver}
 use Rattle.std.proofs.Common.{◌≡◌, None}
 use Rattle.std.proofs.lemmas.Result.{on_err_weaker}
@@ -15,7 +15,7 @@ returns-clause-started c =
 
 pub returns-clause-accepted : goal.returns-clause-accepted
 returns-clause-accepted c =
-    on_table (λ (s : CoreState). OnOk c.started-table.result.1 (spools_refusal c.args.quota c.args.plan s ≡ None)) c.args.self.now c.self.inside.table c.self.inside.decided
+    on_table (λ (s : CoreState). OnOk c.started-table.result.1 (start_limits_refusal c.args.quota c.args.plan s ≡ None)) c.args.self.now c.self.inside.table c.self.inside.decided
     c.taken.result c.self.view_is c.taken.ensures c.started-table.ensures.accepted
 
 pub returns-clause-refused : goal.returns-clause-refused

@@ -3,7 +3,7 @@ use Rattle.keybytes.specs.Cells.{fits}
 use Rattle.keybytes.specs.Schemas.{columns_refusal}
 use Rattle.keybytes.specs.declared.cell.Cell.{Cell}
 use Rattle.sfbuild_c.proofs.CellKinds.{columns_refusal-fits}
-use Rattle.sfbuild_c.proofs.cell_bytes.cell_bytes.Goals as goal
+use Rattle.sfbuild_c.proofs.cell_bytes.bytes_of_cells.Goals as goal
 
 pub returns-in_err-schema-clause-memory : goal.returns-in_err-schema-clause-memory
 returns-in_err-schema-clause-memory c =
