@@ -49,8 +49,7 @@ extern "C" {
  * call of a table that isn't open answers SFBUILD_CLOSED, and each call that takes memory SFBUILD_MEMORY where there is
  * none, and nothing else refuses it. But some memory is taken before the last cause is asked for: for the bytes of a row
  * or of indexes once they are read; at a start also for its spools; at a switch for what it decides, once a build runs;
- * and MEMORY may come before ROOM and END.
- */
+ * and MEMORY may come before ROOM and END. */
 enum {
     SFBUILD_DONE = 0,
     SFBUILD_CLOSED = 1,         /* the table isn't open */
@@ -58,7 +57,7 @@ enum {
     SFBUILD_END = 3,            /* there is no further pair */
     SFBUILD_ROOM = 4,           /* the buffer is too small; the length that is wanted was written */
 
-    SFBUILD_BAD_COLUMN = 10,    /* a column isn't there or named twice, there are too few or too many, or the bytes are of none */
+    SFBUILD_BAD_COLUMN = 10,    /* a column isn't there or named twice, there are too few or too many, or bytes are of none */
     SFBUILD_TEXT_TOO_LONG = 11, /* a text of a row has more than SFBUILD_TEXT_MAX bytes */
     SFBUILD_ROW_SHAPE = 12,     /* the bytes spell no row of the table */
     SFBUILD_TABLE_FULL = 20,    /* no page takes the row, and the table may have no more */
@@ -165,9 +164,9 @@ uint8_t sfbuild_start(sfbuild *table, const uint8_t *indexes, size_t length, siz
 /* Does the next piece of the build: copies a page and takes the keys of it, or seals a worker, or puts the pairs of
  * an index in order, or applies at most `most` changes (1 to 256, or the nearest of these), or switches. `*ready`
  * tells whether it switched: then the build has ended, and sfbuild_verdict tells of each index. NO_BUILD; what the
- * piece answers (below), and what was done before that stays done. After BUSY it can be asked again: the build waits for transactions to end. Where MEMORY or
- * NO_PAGE spoiled the build, each piece answers so from then on: give it up by sfbuild_abandon. (MEMORY of a copy, of
- * changes or of a switch spoils nothing.) */
+ * piece answers (below), and what it did before that stays done. After BUSY it can be asked again: the build waits for
+ * transactions to end. Where MEMORY or NO_PAGE spoiled the build, each piece answers so from then on: give it up by
+ * sfbuild_abandon. (MEMORY of a copy, of changes or of a switch spoils nothing.) */
 uint8_t sfbuild_step(sfbuild *table, size_t most, bool *ready);
 
 /* The pieces one by one, for a program that wants them in an order of its own. A digest, a seal or a load that
@@ -386,8 +385,8 @@ static inline void sfbuild_cursor_from(sfbuild_cursor *cursor, size_t index, con
 }
 
 /* Goes to the next pair whose key is before the bytes `high`, or to the next one where these are NULL, and leaves it
- * in `key`, `length` and `rid`. END where there is none; what sfbuild_next answers. Behind END
- * at a bound the cursor is past the first pair beyond it: begin anew for another range. */
+ * in `key`, `length` and `rid`. END where there is none; what sfbuild_next answers. Behind END at a bound the cursor is
+ * past the first pair beyond it: begin anew for another range. */
 static inline uint8_t sfbuild_cursor_next(sfbuild *table, sfbuild_cursor *cursor, const uint8_t *high,
                                           size_t high_length)
 {
