@@ -6,11 +6,12 @@ use Rattle.spool_ledger.specs.Pools.{PoolValue}
 use Rattle.run_spool.specs.PagedSpools.{runs_of}
 use Rattle.run_spool.specs.Runs.{pairs_of}
 use Rattle.run_spool.specs.Spools.{stakes_in}
-use Rattle.spool_kinds.specs.Kinds.{inside}
+use Rattle.spool_kinds.specs.Kinds.{inside, IsFullOfKind}
 use Rattle.spool_kinds.specs.declared.either.SpoolOfKind.{SpoolOfKind}
 use Rattle.keybytes.specs.declared.fault.Fault.{Fault}
 use Rattle.keybytes.specs.declared.fault.Fault.TheVariants.{Memory}
 use Rattle.build_events.specs.CoreState.{CoreState, SpoolsState, idle, opening, with_heap}
+use Rattle.build_halves.specs.FullSpools.{WantedPage}
 use Rattle.build_work.specs.Holding.{spools_in}
 use Rattle.build_events.specs.Steps.{Step}
 use Rattle.build_events.specs.declared.event.Event.{Event}
@@ -31,6 +32,10 @@ stake_in spool = Some (stake_of (inside spool).account)
 -- spools of either kind as the core sees them
 abbrev pub spools_of_kinds : List SpoolOfKind → SpoolsState
 spools_of_kinds spools = spools_in (λ spool. runs_of (inside spool)) (λ spool. pairs_of (inside spool).open_run) stake_in spools
+
+-- an event wanted a page, and a spool of its worker was full
+abbrev pub WantedLeasedPage : CoreState → Event → Type 0
+WantedLeasedPage = WantedPage IsFullOfKind (λ spool. runs_of (inside spool)) (λ spool. pairs_of (inside spool).open_run) stake_in
 
 -- there is none
 abbrev pub no_spools : SpoolsState

@@ -6,9 +6,9 @@ ghost use Rattle.heap_table.specs.HeapState.{after_visit, row_missing};
 ghost use Rattle.heap_table.specs.TablePairs.{pairs_at_rest};
 ghost use Rattle.build_events.specs.CoreState.{opening, with_heap};
 ghost use Rattle.build_events.specs.BuildSteps.{OnBuild};
-ghost use Rattle.build_events.specs.Steps.{AnswersBy, Step};
+ghost use Rattle.build_events.specs.Steps.{AnswersBy, HasPageCause, Step};
 ghost use Rattle.build_events.specs.Verdicts.{HaveSharedKeys};
-ghost use Rattle.leased_core.specs.Leasing.{AreLeased, EndsBuild, FailsToStart, KeepsBuild, StartsOver, no_spools, stake_in, OnlyVisits};
+ghost use Rattle.leased_core.specs.Leasing.{AreLeased, EndsBuild, FailsToStart, KeepsBuild, StartsOver, WantedLeasedPage, no_spools, stake_in, OnlyVisits};
 
 use crate::leases::Leases;
 use builder_core::{Core, Ends, Event, Live, Plan, Reply, Table};
@@ -105,6 +105,7 @@ impl<T: Table> LeasedCore<T> {
     pub fn step(&mut self, event: Event) -> Reply
         requires { KeepsBuild event }
         ensures step { Step self.old event result self.new }
+        ensures full { HasPageCause WantedLeasedPage self.old event result }
     {
         self.core.step(event)
     }
