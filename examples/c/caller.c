@@ -1,6 +1,6 @@
 /* Builds two indexes of a table while a second thread writes it, and compares them with the program's own list of the rows.
  *
- *     gcc -pthread -I include examples/c/caller.c lib/libsfbuild_c.a -o caller && ./caller     in a release; caller.out has what is printed
+ *     gcc -pthread -I include examples/c/caller.c lib/libsfbuild_c.a -o /tmp/caller && /tmp/caller     in a release; caller.out has what is printed
  *
  * A table is used by one call at a time, so both threads hold `lock` around each. A refusal that isn't awaited ends the program, with its number as
  * the status. */

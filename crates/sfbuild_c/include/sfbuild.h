@@ -59,7 +59,7 @@ enum {
 
     SFBUILD_BAD_COLUMN = 10,    /* a column isn't there or named twice, there are too few or too many, or bytes are of none */
     SFBUILD_TEXT_TOO_LONG = 11, /* a text of a row has more than SFBUILD_TEXT_MAX bytes */
-    SFBUILD_ROW_SHAPE = 12,     /* the bytes spell no row of the table */
+    SFBUILD_ROW_SHAPE = 12,     /* the bytes spell no row of the table, or a text isn't UTF-8 */
     SFBUILD_TABLE_FULL = 20,    /* no page takes the row, and the table may have no more */
     SFBUILD_NO_SUCH_ROW = 21,   /* no row stands there */
     SFBUILD_ROW_HELD = 22,      /* another open transaction wrote it */
@@ -155,18 +155,20 @@ uint8_t sfbuild_pages(sfbuild *table, uint32_t *pages);
 
 /* A build starts, of the 1 to 8 indexes that the bytes spell (sfbuild_put_index), by 1 to 16 `workers` over 1 to 256
  * `ranges` of pages, which share the table's pages out evenly. `quota` is how many pages of 4,096 bytes each worker
- * may lease for the sorted pairs of each index, to SFBUILD_QUOTA_MAX. `*pages` is how many pages of the table the
- * build reads. BUILD_RUNNING; BAD_COLUMN of bytes that aren't those of indexes of the table; BAD_COUNT, also of no
- * index, or where more than 32 would be ready with these; BAD_RANGES. */
+ * has for the sorted pairs of each index, to SFBUILD_QUOTA_MAX: all of them, workers times indexes times quota, are
+ * taken here, 4,248 bytes a page. (Of none, 0, the first that is wanted is NO_PAGE.) `*pages` is how many pages of the
+ * table the build reads. BUILD_RUNNING; BAD_COLUMN of bytes that aren't those of indexes of the table; BAD_COUNT, also
+ * of no index, or where more than 32 would be ready with these; BAD_RANGES. */
 uint8_t sfbuild_start(sfbuild *table, const uint8_t *indexes, size_t length, size_t workers, size_t ranges, size_t quota,
                       uint32_t *pages);
 
 /* Does the next piece of the build: copies a page and takes the keys of it, or seals a worker, or puts the pairs of
- * an index in order, or applies at most `most` changes (1 to 256, or the nearest of these), or switches. `*ready`
- * tells whether it switched: then the build has ended, and sfbuild_verdict tells of each index. NO_BUILD; what the
- * piece answers (below), and what it did before that stays done. After BUSY it can be asked again: the build waits for
- * transactions to end. Where MEMORY or NO_PAGE spoiled the build, each piece answers so from then on: give it up by
- * sfbuild_abandon. (MEMORY of a copy, of changes or of a switch spoils nothing.) */
+ * an index in order, or applies at most `most` changes of each index (1 to 256, or the nearest of these), or, where
+ * none is left to apply, switches. `*ready` tells whether it switched: then the build has ended, and sfbuild_verdict
+ * tells of each index. So it ends only if pieces apply more changes than writers make: docs/C.md, "A build". NO_BUILD;
+ * what the piece answers (below), and what it did before that stays done. After BUSY it can be asked again: the build
+ * waits for transactions to end. Where MEMORY or NO_PAGE spoiled the build, each piece answers so from then on: give it
+ * up by sfbuild_abandon. (MEMORY of a copy, of changes or of a switch spoils nothing.) */
 uint8_t sfbuild_step(sfbuild *table, size_t most, bool *ready);
 
 /* The pieces one by one, for a program that wants them in an order of its own. A digest, a seal or a load that
@@ -197,7 +199,7 @@ uint8_t sfbuild_feed(sfbuild *table, size_t index, size_t most, size_t *entries)
 uint8_t sfbuild_apply(sfbuild *table, size_t index, size_t most, size_t *entries);
 
 /* From now on no transaction begins, until a switch decides or the build is given up, so that those that are open
- * come to their end. NO_BUILD. */
+ * come to their end, and no change is made. A program may ask for it at any time of a build. NO_BUILD. */
 uint8_t sfbuild_fence(sfbuild *table);
 
 /* Applies the changes that are left, decides, and ends the build: `*indexes` is how many it had. NO_BUILD;
@@ -209,8 +211,9 @@ uint8_t sfbuild_switch(sfbuild *table, size_t *indexes);
 uint8_t sfbuild_abandon(sfbuild *table);
 
 /* What the newest switch decided of an index of its build. Where `ready`, it is ready index `number` of the table,
- * for as long as the table is open. Else it is unique, two rows shared a key, `first` and `second` are their
- * addresses, and nothing of the index is left. What isn't named here is 0. */
+ * for as long as the table is open. Else it is unique, rows shared a key, and nothing of the index is left: of the
+ * first such key in the order of the index `first` and `second` are the two least addresses. What isn't named here is
+ * 0. */
 typedef struct {
     bool ready;
     size_t number;
@@ -240,9 +243,9 @@ uint8_t sfbuild_progress(sfbuild *table, sfbuild_progress_of *progress);
 /* How many there are, numbered from 0. */
 uint8_t sfbuild_ready(sfbuild *table, size_t *indexes);
 
-/* Writes the bytes of the key that the ready index has of a row of these cells: of its first `columns` columns (1 to
- * all), so that they begin each key with these cells. Cells of other columns may be null. TEXT_TOO_LONG or ROW_SHAPE
- * of bytes that spell no row; BAD_COUNT; ROOM. */
+/* Writes the bytes of the key that the ready index has of a row: of its first `columns` columns (1 to all), so that
+ * they begin each key with these cells. The bytes are those of a whole row; cells of columns that the key doesn't
+ * take may be null. TEXT_TOO_LONG or ROW_SHAPE of bytes that spell no row; BAD_COUNT; ROOM. */
 uint8_t sfbuild_key(sfbuild *table, size_t index, size_t columns, const uint8_t *row, size_t row_length, uint8_t *key,
                     size_t room, size_t *length);
 
