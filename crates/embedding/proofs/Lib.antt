@@ -1,6 +1,7 @@
 mod FirstColumns
 mod Looking
 mod Pieces
+mod Shapes
 mod SharedRows
 mod Switches
 mod Tables

@@ -1,18 +1,19 @@
 -- Events of a build's work, one after another.
-use Rattle.std.proofs.Common.{◌≡◌, ◌≢◌, ℕ, List, [], ◌∷◌, ◌++◌, Result, Ok, Err, IfErr, OnOk, refl, sym, subst, inl, inr}
+use Rattle.std.proofs.Common.{◌≡◌, ◌≢◌, ℕ, Bool, true, false, List, [], ◌∷◌, ◌++◌, Option, None, Some, IsSomeAnd, Result, Ok, Err, IfOk, IfErr, OnOk, refl, sym, subst, inl, inr}
 use Rattle.std.proofs.lemmas.List.Elements.{All-nil, All-append, All-push}
 use Rattle.keybytes.specs.declared.fault.Fault.{Fault}
+use Rattle.keybytes.specs.declared.fault.Fault.TheVariants.{Behind, Memory}
 use Rattle.build_events.specs.CoreState.{CoreState}
-use Rattle.build_events.specs.Steps.{Does, IsWant, IsWorkWant, Run, Step}
+use Rattle.build_events.specs.Steps.{Does, HasPageCause, IsWant, IsWorkWant, Run, Step}
 use Rattle.build_events.specs.declared.event.Event.{Event}
 use Rattle.build_events.specs.declared.event.Event.TheVariants.{Begin, Insert, Update, Delete, Undo, Commit, Start, Scan, Digest, Seal, Load, Feed, Apply, Fence, Switch, Abandon}
 use Rattle.build_events.specs.declared.reply.Reply.{Reply}
 use Rattle.build_events.specs.declared.reply.Reply.TheVariants.{Refused}
 use Rattle.build_events.proofs.Runs.{run_more}
-use Rattle.leased_core.specs.Leasing.{KeepsBuild}
+use Rattle.leased_core.specs.Leasing.{KeepsBuild, WantedLeasedPage}
 use Rattle.embedding.specs.Decisions.{Decides, FailsToDecide}
 use Rattle.embedding.specs.KeptTables.{DecidedValue}
-use Rattle.embedding.specs.Pieces.{FailsToAdvance, HasWorked, IsDone, IsOfWork, StopsWork, WorksOn, WorksToTheEnd}
+use Rattle.embedding.specs.Pieces.{FailsToAdvance, HasWorked, IsDone, IsOfWork, IsStuck, StopsWork, WorksOn, WorksToTheEnd}
 
 -- work neither starts a build nor ends one
 pub keeps_build : (event : Event) → IsOfWork event → KeepsBuild event
@@ -92,8 +93,11 @@ pub then_worked : (old mid new : CoreState) → WorksOn old mid → HasWorked mi
 unfolding works_further
 then_worked old mid new works worked = (works_further old mid new works worked.0, some_behind works.events worked.0.events worked.1)
 
-pub stops_once : (old new : CoreState) (event : Event) (fault : Fault) → IsOfWork event → Step old event (Refused fault) new → StopsWork old fault new
-stops_once old new event fault of_work step = record { mid = old; works = no_work old; event = event; of_work = of_work; refused = step }
+pub stops_once :
+    (old new : CoreState) (event : Event) (fault : Fault) → IsOfWork event → Step old event (Refused fault) new
+    → HasPageCause WantedLeasedPage old event (Refused fault) → IsStuck old fault → StopsWork old fault new
+stops_once old new event fault of_work step full stuck =
+    record { mid = old; works = no_work old; event = event; of_work = of_work; refused = step; stuck = stuck; full = full }
 
 pub stops_further : (old mid new : CoreState) (fault : Fault) → WorksOn old mid → StopsWork mid fault new → StopsWork old fault new
 stops_further old mid new fault works stops = record {
@@ -102,28 +106,30 @@ stops_further old mid new fault works stops = record {
   event = stops.event;
   of_work = stops.of_work;
   refused = stops.refused;
+  stuck = stops.stuck;
+  full = stops.full;
 }
 
--- an event of work that wants nothing and is refused changes nothing
-unwanted : (event : Event) (fault : Fault) → IsOfWork event → (IsWorkWant fault → ⊥) → IsWant event fault → ⊥
-unwanted Begin fault of_work none want = of_work
-unwanted (Insert txn row) fault of_work none want = of_work
-unwanted (Update txn rid row) fault of_work none want = of_work
-unwanted (Delete txn rid) fault of_work none want = of_work
-unwanted (Undo txn) fault of_work none want = of_work
-unwanted (Commit txn) fault of_work none want = of_work
-unwanted (Start plan) fault of_work none want = of_work
-unwanted (Scan range worker) fault of_work none want = none (inr want)
-unwanted (Digest worker) fault of_work none want = none want
-unwanted (Seal worker) fault of_work none want = none want
-unwanted (Load index) fault of_work none want = none (inr want)
-unwanted (Feed index most) fault of_work none want = want
-unwanted (Apply index most) fault of_work none want = none (inr want)
-unwanted Fence fault of_work none want = of_work
-unwanted Switch fault of_work none want = of_work
-unwanted Abandon fault of_work none want = of_work
+-- what an event of work may want is a page or memory
+pub work_want : (event : Event) (fault : Fault) → IsOfWork event → IsWant event fault → IsWorkWant fault
+work_want Begin fault of_work want = absurd of_work
+work_want (Insert txn row) fault of_work want = absurd of_work
+work_want (Update txn rid row) fault of_work want = absurd of_work
+work_want (Delete txn rid) fault of_work want = absurd of_work
+work_want (Undo txn) fault of_work want = absurd of_work
+work_want (Commit txn) fault of_work want = absurd of_work
+work_want (Start plan) fault of_work want = absurd of_work
+work_want (Scan range worker) fault of_work want = inr want
+work_want (Digest worker) fault of_work want = want
+work_want (Seal worker) fault of_work want = want
+work_want (Load index) fault of_work want = inr want
+work_want (Feed index most) fault of_work want = absurd want
+work_want (Apply index most) fault of_work want = inr want
+work_want Fence fault of_work want = absurd of_work
+work_want Switch fault of_work want = absurd of_work
+work_want Abandon fault of_work want = absurd of_work
 
-done_not_refused : (s : CoreState) (event : Event) (fault : Fault) (new : CoreState) → IsOfWork event → Does s event (Refused fault) new → ⊥
+pub done_not_refused : (s : CoreState) (event : Event) (fault : Fault) (new : CoreState) → IsOfWork event → Does s event (Refused fault) new → ⊥
 done_not_refused s Begin fault new of_work does = of_work
 done_not_refused s (Insert txn row) fault new of_work does = of_work
 done_not_refused s (Update txn rid row) fault new of_work does = of_work
@@ -141,17 +147,16 @@ done_not_refused s Fence fault new of_work does = of_work
 done_not_refused s Switch fault new of_work does = of_work
 done_not_refused s Abandon fault new of_work does = of_work
 
-refused_unchanged :
+pub same_fault : (fault told : Fault) → Refused fault ≡ Refused told → told ≡ fault
+same_fault fault told is = cc
+
+-- an event of work that wants nothing and is refused changes nothing
+pub refused_unchanged :
     (s new : CoreState) (event : Event) (fault : Fault) → IsOfWork event → (IsWorkWant fault → ⊥) → Step s event (Refused fault) new → new ≡ s
 refused_unchanged s new event fault of_work none (inl (told, is, inl (cause, same))) = same
 refused_unchanged s new event fault of_work none (inl (told, is, inr (cause, want, after))) =
-    absurd (unwanted event told of_work (subst (λ (f : Fault). IsWorkWant f → ⊥) (let both : Refused fault ≡ Refused told = is in cc) none) want)
+    absurd (none (subst IsWorkWant (same_fault fault told is) (work_want event told of_work want)))
 refused_unchanged s new event fault of_work none (inr (cause, does)) = absurd (done_not_refused s event fault new of_work does)
-
--- so what was done before it was all
-pub works_before : (old new : CoreState) (fault : Fault) → (IsWorkWant fault → ⊥) → StopsWork old fault new → WorksOn old new
-works_before old new fault none stops =
-    subst (WorksOn old) (sym (refused_unchanged stops.mid new stops.event fault stops.of_work none stops.refused)) stops.works
 
 pub ends_work :
     (old mid new : CoreState) (number : ℕ) (decided : DecidedValue) → WorksOn old mid → Decides mid number decided new → WorksToTheEnd old decided new
@@ -159,6 +164,18 @@ ends_work old mid new number decided works decides = record { mid = mid; works =
 
 pub works_in_vain : (old mid new : CoreState) (fault : Fault) → WorksOn old mid → FailsToDecide mid fault new → FailsToAdvance old fault new
 works_in_vain old mid new fault works fails = inr (record { mid = mid; works = works; fails = fails })
+
+-- a switch that is refused since it is behind changes nothing
+behind_unchanged : (s new : CoreState) (left : ℕ) → FailsToDecide s (Behind left) new → new ≡ s
+behind_unchanged s new left (inl (memory, building, same)) = same
+behind_unchanged s new left (inr (inl (told, is, inl (cause, same)))) = same
+behind_unchanged s new left (inr (inl (told, is, inr (cause, want, after)))) =
+    absurd (let both : Refused (Behind left) ≡ Refused told = is in let memory : told ≡ Memory = want in cc)
+behind_unchanged s new left (inr (inr (cause, does))) = absurd (let is = does.1 in cc)
+
+-- so what was worked before it stays
+pub worked_behind : (old mid new : CoreState) (left : ℕ) → HasWorked old mid → FailsToDecide mid (Behind left) new → HasWorked old new
+worked_behind old mid new left worked fails = subst (HasWorked old) (sym (behind_unchanged mid new left fails)) worked
 
 -- the same of a call that works, if it doesn't stop
 pub worked_if_ok :
@@ -171,3 +188,47 @@ pub stops_if_err :
     → IfErr told (λ fault. StopsWork old fault new)
 stops_if_err (Ok x) old mid new works stops = tt
 stops_if_err (Err fault) old mid new works stops = stops_further old mid new fault works stops
+
+pub works_if_ok :
+    {T : Type 0} (told : Result T Fault) (old mid new : CoreState) → WorksOn old mid → OnOk told (WorksOn mid new) → OnOk told (WorksOn old new)
+works_if_ok (Ok x) old mid new works more = works_further old mid new works more
+works_if_ok (Err fault) old mid new works more = tt
+
+pub then_more :
+    (told : Result Bool Fault) (old mid new : CoreState) → WorksOn old mid → IfOk told (λ more. more ≡ true → HasWorked mid new)
+    → IfOk told (λ more. more ≡ true → HasWorked old new)
+then_more (Ok more) old mid new works worked = λ is. then_worked old mid new works (worked is)
+then_more (Err fault) old mid new works worked = tt
+
+-- and the end of a build, behind more of its work
+
+ends_work_further :
+    (decided : Option DecidedValue) (old mid new : CoreState) → WorksOn old mid → IsSomeAnd decided (λ told. WorksToTheEnd mid told new)
+    → IsSomeAnd decided (λ told. WorksToTheEnd old told new)
+ends_work_further None old mid new works ends = absurd ends
+ends_work_further (Some decided) old mid new works ends =
+    record { mid = ends.mid; works = works_further old mid ends.mid works ends.works; number = ends.number; decides = ends.decides }
+
+pub ends_further :
+    (told : Result Bool Fault) (decided : Option DecidedValue) (old mid new : CoreState) → WorksOn old mid
+    → IfOk told (λ ready. ready ≡ true → IsSomeAnd decided (λ value. WorksToTheEnd mid value new))
+    → IfOk told (λ ready. ready ≡ true → IsSomeAnd decided (λ value. WorksToTheEnd old value new))
+ends_further (Ok ready) decided old mid new works ends = λ is. ends_work_further decided old mid new works (ends is)
+ends_further (Err fault) decided old mid new works ends = tt
+
+pub goes_further :
+    (told : Result Bool Fault) (P : Type 0) (old mid new : CoreState) → WorksOn old mid
+    → IfOk told (λ ready. ready ≡ false → HasWorked mid new × P) → IfOk told (λ ready. ready ≡ false → HasWorked old new × P)
+goes_further (Ok ready) P old mid new works goes = λ is. (then_worked old mid new works (goes is).0, (goes is).1)
+goes_further (Err fault) P old mid new works goes = tt
+
+fails_to_advance_further : (old mid new : CoreState) (fault : Fault) → WorksOn old mid → FailsToAdvance mid fault new → FailsToAdvance old fault new
+fails_to_advance_further old mid new fault works (inl stops) = inl (stops_further old mid new fault works stops)
+fails_to_advance_further old mid new fault works (inr vain) =
+    inr (record { mid = vain.mid; works = works_further old mid vain.mid works vain.works; fails = vain.fails })
+
+pub fails_further :
+    (told : Result Bool Fault) (old mid new : CoreState) → WorksOn old mid → IfErr told (λ fault. FailsToAdvance mid fault new)
+    → IfErr told (λ fault. FailsToAdvance old fault new)
+fails_further (Ok ready) old mid new works fails = tt
+fails_further (Err fault) old mid new works fails = fails_to_advance_further old mid new fault works fails

@@ -3,4 +3,5 @@ pub mod KeptTables
 pub mod Lookups
 pub mod Pieces
 pub mod Progresses
+pub mod Shapes
 pub mod Starts

@@ -1,12 +1,13 @@
 -- What a piece of a build does.
-use Rattle.std.specs.Prelude.{◌≡◌, ◌≢◌, ◌⊎◌, ℕ, List, [], All}
+use Rattle.std.specs.Prelude.{◌≡◌, ◌≢◌, ◌⊎◌, ℕ, List, [], All, Some}
 use Rattle.keybytes.specs.declared.fault.Fault.{Fault}
 use Rattle.build_events.specs.CoreState.{CoreState}
-use Rattle.build_events.specs.Steps.{Run, Step}
+use Rattle.build_events.specs.Steps.{HasPageCause, IsWorkWant, Run, Step}
 use Rattle.build_events.specs.declared.event.Event.{Event}
 use Rattle.build_events.specs.declared.event.Event.TheVariants.{Begin, Insert, Update, Delete, Undo, Commit, Start, Scan, Digest, Seal, Load, Feed, Apply, Fence, Switch, Abandon}
 use Rattle.build_events.specs.declared.reply.Reply.{Reply}
 use Rattle.build_events.specs.declared.reply.Reply.TheVariants.{Refused}
+use Rattle.leased_core.specs.Leasing.{WantedLeasedPage}
 use Rattle.embedding.specs.Decisions.{Decides, FailsToDecide}
 use Rattle.embedding.specs.KeptTables.{DecidedValue}
 
@@ -45,6 +46,10 @@ pub record WorksOn (old new : CoreState) : Type 0 where
 abbrev pub HasWorked : CoreState → CoreState → Type 0
 HasWorked old new = (works : WorksOn old new) × (works.events ≢ [])
 
+-- the build was spoiled for that fault before, or a page or memory was wanted
+abbrev pub IsStuck : CoreState → Fault → Type 0
+IsStuck s fault = (s.work.spoiled ≡ Some fault) ⊎ IsWorkWant fault
+
 -- they are done, and the one behind them is refused
 pub record StopsWork (old : CoreState) (fault : Fault) (new : CoreState) : Type 0 where
   pub mid : CoreState
@@ -52,6 +57,10 @@ pub record StopsWork (old : CoreState) (fault : Fault) (new : CoreState) : Type 
   pub event : Event
   pub of_work : IsOfWork event
   pub refused : Step mid event (Refused fault) new
+  -- nothing else refuses it
+  pub stuck : IsStuck mid fault
+  -- and where no page was there, a spool of its worker was full
+  pub full : HasPageCause WantedLeasedPage mid event (Refused fault)
 
 -- they are done, and the switch behind them decides
 pub record WorksToTheEnd (old : CoreState) (decided : DecidedValue) (new : CoreState) : Type 0 where

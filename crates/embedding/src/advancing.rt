@@ -1,6 +1,7 @@
 //! A build that is done a piece at a time.
-ghost use Rattle.std.specs.Prelude.{◌≡◌, true, false, None, IfOk, IfErr, IsSomeAnd, OnOk, OnErr};
+ghost use Rattle.std.specs.Prelude.{◌≡◌, ◌<◌, true, false, None, IfOk, IfErr, IfSome, IsSomeAnd, OnOk, OnErr};
 ghost use Rattle.embedding.specs.Pieces.{FailsToAdvance, HasWorked, IsOfWork, StopsWork, WorksOn, WorksToTheEnd};
+ghost use Rattle.embedding.specs.Shapes.{HasAllLoaded, HasCounts, HasIndex, HasLoaded, HasOpenRange, HasPageIn, HasWorker, IsHeldUp, IsPutOff, IsThere};
 
 use crate::Kept;
 use crate::builds::decide;
@@ -17,9 +18,9 @@ const RING_ENTRIES: usize = 256;
 
 impl Kept {
     /// Does the next piece of the build that runs, and answers whether its indexes were brought into use by it: copies a page and makes its pairs, or lets
-    /// a worker close its runs, or puts the pairs of an index in order, or applies at most so many entries of an index, from 1 to 256. Where nothing of that is
-    /// left it tries the switch, which keeps what it decides. After [`Fault::Behind`] and [`Fault::Busy`] it can be called again; after the fault of a
-    /// spoiled build, and after [`Fault::NoPage`] and [`Fault::Memory`] where these spoil it, the build can only be given up.
+    /// a worker close its runs, or puts the pairs of an index in order, or applies at most so many entries of each index, from 1 to 256, and tries the
+    /// switch, which keeps what it decides. After [`Fault::Busy`] it can be called again; after the fault of a spoiled build, and after
+    /// [`Fault::NoPage`] and [`Fault::Memory`] where these spoil it, the build can only be given up.
     pub fn advance(&mut self, most: usize) -> Result<bool, Fault>
         ensures ready { IfOk result (λ ready. ready ≡ true → IsSomeAnd self.new.decided (λ decided. WorksToTheEnd self.old.core decided self.new.core)) }
         ensures goes_on { IfOk result (λ ready. ready ≡ false → HasWorked self.old.core self.new.core × (self.new.decided ≡ self.old.decided)) }
@@ -68,22 +69,15 @@ fn advance<T: Table>(
     ensures refused { IfErr result (λ fault. FailsToAdvance leased.old fault leased.new) }
     ensures kept { OnErr result (decided.new ≡ decided.old) }
 {
-    match work_on(leased, pages, most) {
+    match prepare(leased, pages) {
         Ok(true) => Ok(false),
-        Ok(false) => match decide(leased, decided) {
-            Ok(_number) => Ok(true),
-            Err(fault) => Err(fault),
-        },
+        Ok(false) => finish(leased, decided, most.clamp(1, RING_ENTRIES)),
         Err(fault) => Err(fault),
     }
 }
 
-/// Does the next piece of work, and answers whether there was one; there is none where no build runs.
-fn work_on<T: Table>(
-    leased: &mut LeasedCore<T>,
-    pages: &mut PageCount,
-    most: usize,
-) -> Result<bool, Fault>
+/// Copies a page or puts pairs in order, and answers whether there was something of that to do; there isn't where no build runs.
+fn prepare<T: Table>(leased: &mut LeasedCore<T>, pages: &mut PageCount) -> Result<bool, Fault>
     ensures done { OnOk result (WorksOn leased.old leased.new) }
     ensures some { IfOk result (λ more. more ≡ true → HasWorked leased.old leased.new) }
     ensures refused { IfErr result (λ fault. StopsWork leased.old fault leased.new) }
@@ -92,20 +86,49 @@ fn work_on<T: Table>(
         return Ok(false);
     };
     if let Some(range) = range {
-        copy_page(leased, pages, range, range % workers.max(1))?;
+        copy_page(leased, pages, range, range % workers)?;
         return Ok(true);
     }
     if let Some(index) = leased.core().first_unloaded() {
-        put_in_order(leased, index)?;
-        return Ok(true);
+        return put_in_order(leased, index, indexes, workers);
     }
-    catch_up(leased, indexes, most.clamp(1, RING_ENTRIES))
+    Ok(false)
 }
 
-/// The workers and the indexes of the build that runs, and the lowest range that has a page left.
-fn build_counts<T: Table>(leased: &LeasedCore<T>) -> Option<(usize, usize, Option<usize>)> {
+/// The workers and the indexes of the build that runs, and the lowest range that has a page left; none of that where it has no worker.
+fn build_counts<T: Table>(leased: &LeasedCore<T>) -> Option<(usize, usize, Option<usize>)>
+    ensures some { IfSome result (λ counts. 0 < counts.0) }
+    ensures counts { IfSome result (λ counts. HasCounts counts.0 counts.1 leased.now) }
+    ensures range { IfSome result (λ counts. HasOpenRange counts.2 leased.now) }
+{
     let build = leased.core().live().build()?;
+    if build.workers() == 0 {
+        return None;
+    }
     Some((build.workers(), build.indexes(), build.first_open()))
+}
+
+/// Applies entries of each index, and tries the switch, which answers whether it decided. It does not where more entries are left than a switch
+/// applies itself; then there is more to do. So a build ends once so few are left, also where writers go on.
+fn finish<T: Table>(
+    leased: &mut LeasedCore<T>,
+    decided: &mut Option<Decided>,
+    most: usize,
+) -> Result<bool, Fault>
+    ensures ready { IfOk result (λ ready. ready ≡ true → IsSomeAnd decided.new (λ told. WorksToTheEnd leased.old told leased.new)) }
+    ensures goes_on { IfOk result (λ ready. ready ≡ false → HasWorked leased.old leased.new × (decided.new ≡ decided.old)) }
+    ensures refused { IfErr result (λ fault. FailsToAdvance leased.old fault leased.new) }
+    ensures kept { OnErr result (decided.new ≡ decided.old) }
+{
+    let worked = match catch_up(leased, most) {
+        Ok(worked) => worked,
+        Err(fault) => return Err(fault),
+    };
+    match decide(leased, decided) {
+        Ok(_number) => Ok(true),
+        Err(Fault::Behind(_left)) if worked => Ok(false),
+        Err(fault) => Err(fault),
+    }
 }
 
 /// Copies the next page of the range for the worker, unless it has as many copies as it may, and lets it make the pairs of one copy.
@@ -115,6 +138,8 @@ fn copy_page<T: Table>(
     range: usize,
     worker: usize,
 ) -> Result<(), Fault>
+    requires page { HasPageIn range leased.old }
+    requires worker { HasWorker worker leased.old }
     ensures done { OnOk result (HasWorked leased.old leased.new) }
     ensures refused { IfErr result (λ fault. StopsWork leased.old fault leased.new) }
 {
@@ -129,21 +154,26 @@ fn scan<T: Table>(
     range: usize,
     worker: usize,
 ) -> Result<(), Fault>
+    requires page { HasPageIn range leased.old }
+    requires worker { HasWorker worker leased.old }
     ensures done { OnOk result (WorksOn leased.old leased.new) }
     ensures refused { IfErr result (λ fault. StopsWork leased.old fault leased.new) }
 {
-    match work(leased, Event::Scan { range, worker }) {
+    match attempt(leased, Event::Scan { range, worker }) {
         Ok(reply) => {
             *pages = pages.after(&reply);
             Ok(())
         }
-        Err(Fault::RingFull) => Ok(()),
-        Err(fault) => Err(fault),
+        Err(fault) => match fault {
+            Fault::RingFull => Ok(()),
+            other => Err(other),
+        },
     }
 }
 
 /// Lets the worker make the pairs of one copy.
 fn digest<T: Table>(leased: &mut LeasedCore<T>, worker: usize) -> Result<(), Fault>
+    requires { HasWorker worker leased.old }
     ensures done { OnOk result (HasWorked leased.old leased.new) }
     ensures refused { IfErr result (λ fault. StopsWork leased.old fault leased.new) }
 {
@@ -153,32 +183,68 @@ fn digest<T: Table>(leased: &mut LeasedCore<T>, worker: usize) -> Result<(), Fau
     }
 }
 
-/// Puts the pairs of the index in order, or lets the lowest worker close its runs that has not.
-fn put_in_order<T: Table>(leased: &mut LeasedCore<T>, index: usize) -> Result<(), Fault>
-    ensures done { OnOk result (HasWorked leased.old leased.new) }
+/// Puts the pairs of the index in order, or lets the lowest worker close its runs that has not, and answers whether there are that index and that worker.
+fn put_in_order<T: Table>(
+    leased: &mut LeasedCore<T>,
+    index: usize,
+    indexes: usize,
+    workers: usize,
+) -> Result<bool, Fault>
+    requires counts { HasCounts workers indexes leased.old }
+    requires scanned { HasOpenRange None leased.old }
+    ensures done { OnOk result (WorksOn leased.old leased.new) }
+    ensures some { IfOk result (λ more. more ≡ true → HasWorked leased.old leased.new) }
     ensures refused { IfErr result (λ fault. StopsWork leased.old fault leased.new) }
 {
-    match load(leased, index)? {
-        Some(worker) => seal(leased, worker),
-        None => Ok(()),
+    if index < indexes {
+        match load(leased, index)? {
+            Some(worker) => seal_one_of(leased, worker, workers),
+            None => Ok(true),
+        }
+    } else {
+        Ok(false)
     }
 }
 
 /// Puts the pairs of the index in order, or answers the lowest worker that has not closed its runs.
 fn load<T: Table>(leased: &mut LeasedCore<T>, index: usize) -> Result<Option<usize>, Fault>
+    requires index { HasIndex index leased.old }
+    requires scanned { HasOpenRange None leased.old }
     ensures done { IfOk result (λ unsealed. unsealed ≡ None → HasWorked leased.old leased.new) }
     ensures unsealed { OnOk result (WorksOn leased.old leased.new) }
     ensures refused { IfErr result (λ fault. StopsWork leased.old fault leased.new) }
 {
-    match work(leased, Event::Load { index }) {
+    match attempt(leased, Event::Load { index }) {
         Ok(_reply) => Ok(None),
-        Err(Fault::NotSealed(worker)) => Ok(Some(worker)),
-        Err(fault) => Err(fault),
+        Err(fault) => match fault {
+            Fault::NotSealed(worker) => Ok(Some(worker)),
+            other => Err(other),
+        },
+    }
+}
+
+/// Lets the worker close its runs if it is one of so many, and answers whether it is.
+fn seal_one_of<T: Table>(
+    leased: &mut LeasedCore<T>,
+    worker: usize,
+    workers: usize,
+) -> Result<bool, Fault>
+    requires { worker < workers → HasWorker worker leased.old }
+    ensures done { OnOk result (WorksOn leased.old leased.new) }
+    ensures some { IfOk result (λ more. more ≡ true → HasWorked leased.old leased.new) }
+    ensures refused { IfErr result (λ fault. StopsWork leased.old fault leased.new) }
+{
+    if worker < workers {
+        seal(leased, worker)?;
+        Ok(true)
+    } else {
+        Ok(false)
     }
 }
 
 /// Lets the worker close its runs.
 fn seal<T: Table>(leased: &mut LeasedCore<T>, worker: usize) -> Result<(), Fault>
+    requires { HasWorker worker leased.old }
     ensures done { OnOk result (HasWorked leased.old leased.new) }
     ensures refused { IfErr result (λ fault. StopsWork leased.old fault leased.new) }
 {
@@ -188,51 +254,67 @@ fn seal<T: Table>(leased: &mut LeasedCore<T>, worker: usize) -> Result<(), Fault
     }
 }
 
-/// Applies the next entries of the lowest index that has some, at most so many, and answers whether one has.
-fn catch_up<T: Table>(
-    leased: &mut LeasedCore<T>,
-    indexes: usize,
-    most: usize,
-) -> Result<bool, Fault>
+/// Applies the next entries of each index, at most so many of each, and answers whether a build runs that has one. Each has its turn, so that
+/// none is left behind while writers go on.
+fn catch_up<T: Table>(leased: &mut LeasedCore<T>, most: usize) -> Result<bool, Fault>
     ensures done { OnOk result (WorksOn leased.old leased.new) }
-    ensures some { IfOk result (λ more. more ≡ true → HasWorked leased.old leased.new) }
+    ensures some { IfOk result (λ worked. worked ≡ true → HasWorked leased.old leased.new) }
     ensures refused { IfErr result (λ fault. StopsWork leased.old fault leased.new) }
 {
+    let indexes = loaded_indexes(leased);
+    let mut worked = false;
     for index in 0..indexes {
-        if catch_up_one(leased, index, most)? {
-            return Ok(true);
-        }
+        catch_up_one(leased, index, most)?;
+        worked = true;
     }
-    Ok(false)
+    Ok(worked)
 }
 
-/// Applies the next entries of the index, at most so many, and answers whether it has some.
+/// How many indexes the build that runs has, if the pairs of all are in order.
+fn loaded_indexes<T: Table>(leased: &LeasedCore<T>) -> usize
+    ensures { HasAllLoaded result leased.now }
+{
+    let Some((_workers, indexes, _range)) = build_counts(leased) else {
+        return 0;
+    };
+    if let Some(_index) = leased.core().first_unloaded() {
+        return 0;
+    }
+    leased.core().loaded().min(indexes)
+}
+
+/// Applies the next entries of the index, at most so many.
 fn catch_up_one<T: Table>(
     leased: &mut LeasedCore<T>,
     index: usize,
     most: usize,
-) -> Result<bool, Fault>
+) -> Result<(), Fault>
+    requires { HasLoaded index leased.old }
     ensures done { OnOk result (HasWorked leased.old leased.new) }
     ensures refused { IfErr result (λ fault. StopsWork leased.old fault leased.new) }
 {
-    let fed = work(leased, Event::Feed { index, most })?;
-    let applied = work(leased, Event::Apply { index, most })?;
-    Ok(has_entries(&fed) || has_entries(&applied))
+    let _fed = work(leased, Event::Feed { index, most })?;
+    let _applied = work(leased, Event::Apply { index, most })?;
+    Ok(())
 }
 
-/// Whether the reply tells of entries.
-fn has_entries(reply: &Reply) -> bool {
-    match reply {
-        Reply::Fed { entries } | Reply::Applied { entries } => *entries > 0,
-        _ => false,
-    }
-}
-
-/// Does one event of the build's work.
+/// Does one event of the build's work that waits for no other one.
 fn work<T: Table>(leased: &mut LeasedCore<T>, event: Event) -> Result<Reply, Fault>
-    requires { IsOfWork event }
+    requires work { IsOfWork event }
+    requires there { IsThere event leased.old }
+    requires waits { (fault : Fault) → IsPutOff event fault → ⊥ }
     ensures done { OnOk result (HasWorked leased.old leased.new) }
     ensures refused { IfErr result (λ fault. StopsWork leased.old fault leased.new) }
+{
+    attempt(leased, event)
+}
+
+/// Does one event of the build's work, unless it has to wait for another.
+fn attempt<T: Table>(leased: &mut LeasedCore<T>, event: Event) -> Result<Reply, Fault>
+    requires work { IsOfWork event }
+    requires there { IsThere event leased.old }
+    ensures done { OnOk result (HasWorked leased.old leased.new) }
+    ensures held { IfErr result (λ fault. IsHeldUp leased.old event fault leased.new) }
 {
     match leased.step(event) {
         Reply::Refused { fault } => Err(fault),

@@ -1,6 +1,6 @@
 ghost use Rattle.std.specs.Prelude.{◌≡◌, true, None, Some, is_some, IfOk, IfErr};
-ghost use Rattle.build_events.specs.Steps.{Step};
-ghost use Rattle.leased_core.specs.Leasing.{KeepsBuild};
+ghost use Rattle.build_events.specs.Steps.{HasPageCause, Step};
+ghost use Rattle.leased_core.specs.Leasing.{KeepsBuild, WantedLeasedPage};
 ghost use Rattle.embedding.specs.KeptTables.{new_table};
 
 use crate::decided::Decided;
@@ -79,6 +79,7 @@ impl Kept {
     pub fn step(&mut self, event: Event) -> Reply
         requires { KeepsBuild event }
         ensures step { Step self.old.core event result self.new.core }
+        ensures full { HasPageCause WantedLeasedPage self.old.core event result }
         ensures decided { self.new.decided ≡ self.old.decided }
     {
         let (table, reply) = stepped::<Brand>(taken(&mut self.table), event);
@@ -123,7 +124,8 @@ fn stepped<T: Table>(table: ShutLeased, event: Event) -> (ShutLeased, Reply)
     requires pages { table.pages ≡ T.pages }
     requires sides { table.sides ≡ T.sides }
     requires keeps { KeepsBuild event }
-    ensures { Step table.core event result.1 result.0.core }
+    ensures step { Step table.core event result.1 result.0.core }
+    ensures full { HasPageCause WantedLeasedPage table.core event result.1 }
 {
     let mut named = table.open::<T>();
     let reply = named.step(event);

@@ -8,9 +8,8 @@
  *
  * Proved, for whatever list of calls: no call reads or writes beyond what is described here, each call returns and does
  * and answers what its definition says, and an index that becomes ready has one pair, key and address, of each row that
- * stands, and no other. Only tested is which of its faults a piece of a build (sfbuild_step) answers, that it gets on
- * each time, that NO_PAGE comes only of a full quota, the pages that sfbuild_progress tells, and that sfbuild_close
- * frees all. (docs/C.md, docs/PROMISES.md.) What the program has to keep, since nothing can check it:
+ * stands, and no other. Only tested is that a build comes to its end, the pages that sfbuild_progress tells, and that
+ * sfbuild_close frees all. (docs/C.md, docs/PROMISES.md.) What the program has to keep, since nothing can check it:
  *
  * - Pointers aren't null, point to what they are said to, and not into one another. Lengths are true. A pointer to
  *   no bytes isn't null either, except where a helper says that it may be.
@@ -163,12 +162,12 @@ uint8_t sfbuild_start(sfbuild *table, const uint8_t *indexes, size_t length, siz
                       uint32_t *pages);
 
 /* Does the next piece of the build: copies a page and takes the keys of it, or seals a worker, or puts the pairs of
- * an index in order, or applies at most `most` changes of each index (1 to 256, or the nearest of these), or, where
- * none is left to apply, switches. `*ready` tells whether it switched: then the build has ended, and sfbuild_verdict
- * tells of each index. So it ends only if pieces apply more changes than writers make: docs/C.md, "A build". NO_BUILD;
- * what the piece answers (below), and what it did before that stays done. After BUSY it can be asked again: the build
- * waits for transactions to end. Where MEMORY or NO_PAGE spoiled the build, each piece answers so from then on: give it
- * up by sfbuild_abandon. (MEMORY of a copy, of changes or of a switch spoils nothing.) */
+ * an index in order, or applies at most `most` changes of each index (1 to 256, or the nearest of these) and, where no
+ * more than 1,024 are left then, switches. `*ready` tells whether it switched: then the build has ended, and
+ * sfbuild_verdict tells of each index. So it ends unless writers make more changes between two pieces than one applies:
+ * docs/C.md, "A build". NO_BUILD; BUSY; NO_PAGE. What a refused piece did before stays done. After BUSY it can be asked
+ * again: the build waits for transactions to end. Where MEMORY or NO_PAGE spoiled the build, each piece answers so from
+ * then on: give it up by sfbuild_abandon. (MEMORY of a copy, of changes or of a switch spoils nothing.) */
 uint8_t sfbuild_step(sfbuild *table, size_t most, bool *ready);
 
 /* The pieces one by one, for a program that wants them in an order of its own. A digest, a seal or a load that

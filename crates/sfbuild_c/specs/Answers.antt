@@ -4,10 +4,11 @@ use Rattle.keybytes.specs.Faults.{number_of}
 use Rattle.keybytes.specs.Rows.{RefusesReading, Spells}
 use Rattle.keybytes.specs.declared.cell.Cell.{Cell}
 use Rattle.keybytes.specs.declared.fault.Fault.{Fault}
-use Rattle.build_events.specs.Steps.{Step}
+use Rattle.build_events.specs.Steps.{HasPageCause, Step}
 use Rattle.build_events.specs.declared.event.Event.{Event}
 use Rattle.build_events.specs.declared.reply.Reply.{Reply}
 use Rattle.build_events.specs.declared.reply.Reply.TheVariants.{Refused}
+use Rattle.leased_core.specs.Leasing.{WantedLeasedPage}
 use Rattle.embedding.specs.KeptTables.{KeptValue}
 use Rattle.sfbuild_c.specs.Causes.{cause_of}
 use Rattle.sfbuild_c.specs.declared.session.Session.{Session}
@@ -50,9 +51,10 @@ UnlessDone status Holds = (status ≡ 0) ⊎ Holds
 abbrev pub UnlessTold : ℕ → Type 0 → Type 0
 UnlessTold status Holds = UnlessDone status ((status ≡ 4) ⊎ Holds)
 
--- an event of the core is replied so, and what the newest switch decided stays
+-- an event of the core is replied so, for want of a page only where a spool of its worker was full; and what the newest switch decided stays
 abbrev pub Steps : Event → Reply → KeptValue → KeptValue → Type 0
-Steps event reply before after = Step before.core event reply after.core × (after.decided ≡ before.decided)
+Steps event reply before after =
+    Step before.core event reply after.core × (after.decided ≡ before.decided) × HasPageCause WantedLeasedPage before.core event reply
 
 -- what the status of a call for an event tells
 abbrev pub Answered : Event → Reply → ℕ → Session → Session → Type 0

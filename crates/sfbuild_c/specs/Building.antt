@@ -6,7 +6,8 @@ use Rattle.keybytes.specs.declared.kind.Kind.{Kind}
 use Rattle.scan_range.specs.declared.dealing.Dealing.TheVariants.{Even}
 use Rattle.build_events.specs.declared.event.Event.TheVariants.{Abandon}
 use Rattle.build_events.specs.declared.plan.Plan.{Plan}
-use Rattle.build_events.specs.declared.reply.Reply.TheVariants.{Abandoned, Started}
+use Rattle.build_events.specs.Steps.{Step}
+use Rattle.build_events.specs.declared.reply.Reply.TheVariants.{Abandoned, Refused, Started}
 use Rattle.leased_core.specs.Leasing.{EndsBuild, StartsOver}
 use Rattle.embedding.specs.Decisions.{Decides, FailsToDecide, verdicts_in}
 use Rattle.embedding.specs.KeptTables.{KeptValue}
@@ -57,3 +58,7 @@ FailsToSwitch fault before after = FailsToDecide before.core fault after.core ×
 -- the build is given up
 abbrev pub IsGivenUp : KeptValue → KeptValue → Type 0
 IsGivenUp before after = EndsBuild Abandon Abandoned before.core after.core × (after.decided ≡ before.decided)
+
+-- it isn't
+abbrev pub IsNotGivenUp : Fault → KeptValue → KeptValue → Type 0
+IsNotGivenUp fault before after = Step before.core Abandon (Refused fault) after.core × (after.decided ≡ before.decided)

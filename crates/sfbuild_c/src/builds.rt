@@ -2,8 +2,8 @@
 ghost use Rattle.std.specs.Prelude.{◌≡◌, IfOk, IfErr};
 ghost use Rattle.build_events.specs.declared.event.Event.{Event};
 ghost use Rattle.build_events.specs.declared.reply.Reply.{Reply};
-ghost use Rattle.sfbuild_c.specs.Answers.{Answered, Answers, Steps, UnlessDone};
-ghost use Rattle.sfbuild_c.specs.Building.{Advances, FailsToGoOn, FailsToSwitch, IsGivenUp, RefusesBuild, StartsBuild, SwitchesTo};
+ghost use Rattle.sfbuild_c.specs.Answers.{Answered, Answers, UnlessDone};
+ghost use Rattle.sfbuild_c.specs.Building.{Advances, FailsToGoOn, FailsToSwitch, IsGivenUp, IsNotGivenUp, RefusesBuild, StartsBuild, SwitchesTo};
 
 use crate::index_bytes::read_indexes;
 use crate::session::Session;
@@ -266,7 +266,7 @@ pub extern "C" fn sfbuild_switch(alloc: Global, session: &mut Session, indexes: 
 /// Gives the build up.
 #[unsafe(no_mangle)]
 pub extern "C" fn sfbuild_abandon(alloc: Global, session: &mut Session) -> u8
-    ensures { Answers IsGivenUp (λ fault. Steps Event.Abandon (Reply.Refused fault)) result session.old session.new }
+    ensures { Answers IsGivenUp IsNotGivenUp result session.old session.new }
 {
     let Some(mut table) = session.take(alloc) else {
         return CLOSED;
