@@ -1,8 +1,8 @@
-/* Builds two indexes beside a writer that inserts a row between any two pieces of the build, and has a transaction open most of the time.
+/* Builds two indexes in one thread, by turns with a writer that inserts a row between any two pieces and has a transaction open most of the time.
  *
  *     gcc -I include examples/c/steady.c lib/libsfbuild_c.a -o /tmp/steady && /tmp/steady     in a release; steady.out has what is printed
  *
- * Each piece applies up to 64 changes of each index and then tries the switch, so that it keeps up with this writer. One index is unique, and a
+ * Once the pairs are in order each piece applies up to 64 changes of each index and then tries the switch, so that it keeps up with this writer. One index is unique, and a
  * transaction is open that has written: the switch is BUSY, and the fence lets no further transaction begin until it has decided. */
 #include "sfbuild.h"
 #include <stdio.h>
@@ -43,10 +43,10 @@ static uint8_t write_on(size_t turn)
     return sfbuild_commit(&table, txn);
 }
 
-/* Ends where a piece switches, and with BUSY where there were too many turns. */
+/* Ends where a piece switches, and with BEHIND or BUSY where there were too many turns. */
 static uint8_t build(void)
 {
-    uint8_t indexes[SFBUILD_INDEXES_MAX], told = SFBUILD_BUSY;
+    uint8_t indexes[SFBUILD_INDEXES_MAX], told = SFBUILD_DONE;
     size_t length = 0;
     uint32_t pages;
     bool ready = false;

@@ -59,8 +59,8 @@ static void decide(store *s)
     }
 }
 
-/* Does the next piece of the build, and answers whether it goes on. One that is refused for anything but a transaction that is open is given up: what is said
- * of it then tells why. */
+/* Does the next piece of the build, and answers whether it goes on. One that is refused for anything but BUSY, as for want of memory, is given up: what is
+ * said of it then tells why. */
 bool do_piece(store *s)
 {
     bool ready = false;
@@ -71,7 +71,7 @@ bool do_piece(store *s)
     s->waits = told == SFBUILD_BUSY;
     if (told == SFBUILD_DONE && ready) {
         decide(s);
-    } else if (told != SFBUILD_DONE && told != SFBUILD_BUSY && told != SFBUILD_BEHIND) {
+    } else if (told != SFBUILD_DONE && told != SFBUILD_BUSY) {
         sfbuild_abandon(&s->table);
         end_build(s, sqlite3_mprintf("given up: the index on %s, refused, %d", s->wanted.on, told));
     }

@@ -57,9 +57,9 @@ pub record StopsWork (old : CoreState) (fault : Fault) (new : CoreState) : Type 
   pub event : Event
   pub of_work : IsOfWork event
   pub refused : Step mid event (Refused fault) new
-  -- nothing else refuses it
+  -- for nothing else than that
   pub stuck : IsStuck mid fault
-  -- and where no page was there, a spool of its worker was full
+  -- and for want of a page only where a spool of its worker was full, unless the build was spoiled before
   pub full : HasPageCause WantedLeasedPage mid event (Refused fault)
 
 -- they are done, and the switch behind them decides

@@ -17,7 +17,7 @@ use Rattle.embedding.specs.Pieces.{IsStuck}
 abbrev pub HasCounts : ℕ → ℕ → CoreState → Type 0
 HasCounts workers indexes s = OnBuild s.live.build (λ b. (workers ≡ b.workers) × (indexes ≡ length b.specs))
 
--- its lowest range that has a page left to copy, if one has
+-- that is its lowest range that has a page left to copy, or none has one
 abbrev pub HasOpenRange : Option ℕ → CoreState → Type 0
 HasOpenRange range s = OnBuild s.live.build (λ b. range ≡ open_range b)
 
@@ -29,11 +29,11 @@ HasWorker worker s = OnBuild s.live.build (λ b. worker < b.workers)
 abbrev pub HasIndex : ℕ → CoreState → Type 0
 HasIndex index s = OnBuild s.live.build (λ b. index < length b.specs)
 
--- and its pairs are in order
+-- it has that index, whose pairs are in order
 abbrev pub HasLoaded : ℕ → CoreState → Type 0
 HasLoaded index s = HasIndex index s × ((index_at s.work.indexes index).loaded ≡ true)
 
--- so it is of the first so many
+-- each of the first so many indexes is there, and its pairs are in order
 abbrev pub HasAllLoaded : ℕ → CoreState → Type 0
 HasAllLoaded indexes s = (index : ℕ) → index < indexes → HasLoaded index s
 
@@ -79,7 +79,7 @@ IsPutOff Fence fault = ⊥
 IsPutOff Switch fault = ⊥
 IsPutOff Abandon fault = ⊥
 
--- an event that asks for what is there is refused: it is put off, or nothing can go on
+-- an event is refused: it is put off, or the build was spoiled for that, or a page or memory is wanted
 pub record IsHeldUp (s : CoreState) (event : Event) (fault : Fault) (new : CoreState) : Type 0 where
   pub refused : Step s event (Refused fault) new
   pub full : HasPageCause WantedLeasedPage s event (Refused fault)

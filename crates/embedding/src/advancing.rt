@@ -17,10 +17,11 @@ use std::marker::Brand;
 const RING_ENTRIES: usize = 256;
 
 impl Kept {
-    /// Does the next piece of the build that runs, and answers whether its indexes were brought into use by it: copies a page and makes its pairs, or lets
-    /// a worker close its runs, or puts the pairs of an index in order, or applies at most so many entries of each index, from 1 to 256, and tries the
-    /// switch, which keeps what it decides. After [`Fault::Busy`] it can be called again; after the fault of a spoiled build, and after
-    /// [`Fault::NoPage`] and [`Fault::Memory`] where these spoil it, the build can only be given up.
+    /// Does the next piece of the build that runs, and answers whether its indexes were brought into use by it: copies a page and makes the pairs of one
+    /// copy, or lets a worker close its runs, or puts the pairs of an index in order, or applies at most so many entries of each index, from 1 to 256, and
+    /// tries the switch, which keeps what it decides. [`Fault::NoBuild`] where none runs. After [`Fault::Busy`] it can be called again, and after
+    /// [`Fault::Memory`] of a copy, of entries or of the switch; after the fault of a spoiled build, and after [`Fault::NoPage`] and [`Fault::Memory`]
+    /// where these spoil it, the build can only be given up.
     pub fn advance(&mut self, most: usize) -> Result<bool, Fault>
         ensures ready { IfOk result (λ ready. ready ≡ true → IsSomeAnd self.new.decided (λ decided. WorksToTheEnd self.old.core decided self.new.core)) }
         ensures goes_on { IfOk result (λ ready. ready ≡ false → HasWorked self.old.core self.new.core × (self.new.decided ≡ self.old.decided)) }
@@ -76,7 +77,8 @@ fn advance<T: Table>(
     }
 }
 
-/// Copies a page or puts pairs in order, and answers whether there was something of that to do; there isn't where no build runs.
+/// Copies a page, or puts the pairs of an index in order or closes the runs of a worker, and answers whether there was something of that to do;
+/// there isn't where no build runs.
 fn prepare<T: Table>(leased: &mut LeasedCore<T>, pages: &mut PageCount) -> Result<bool, Fault>
     ensures done { OnOk result (WorksOn leased.old leased.new) }
     ensures some { IfOk result (λ more. more ≡ true → HasWorked leased.old leased.new) }
@@ -95,7 +97,8 @@ fn prepare<T: Table>(leased: &mut LeasedCore<T>, pages: &mut PageCount) -> Resul
     Ok(false)
 }
 
-/// The workers and the indexes of the build that runs, and the lowest range that has a page left; none of that where it has no worker.
+/// The workers and the indexes of the build that runs, and the lowest range that has a page left; none of that where none runs, or one without
+/// workers, which no start makes.
 fn build_counts<T: Table>(leased: &LeasedCore<T>) -> Option<(usize, usize, Option<usize>)>
     ensures some { IfSome result (λ counts. 0 < counts.0) }
     ensures counts { IfSome result (λ counts. HasCounts counts.0 counts.1 leased.now) }
@@ -108,8 +111,8 @@ fn build_counts<T: Table>(leased: &LeasedCore<T>) -> Option<(usize, usize, Optio
     Some((build.workers(), build.indexes(), build.first_open()))
 }
 
-/// Applies entries of each index, and tries the switch, which answers whether it decided. It does not where more entries are left than a switch
-/// applies itself; then there is more to do. So a build ends once so few are left, also where writers go on.
+/// Applies entries of each index, tries the switch, and answers whether that decided. A switch that is behind, since more entries are left than it
+/// applies itself, is tried again with the next piece. So a build needn't wait until writers leave nothing to apply.
 fn finish<T: Table>(
     leased: &mut LeasedCore<T>,
     decided: &mut Option<Decided>,
@@ -254,7 +257,7 @@ fn seal<T: Table>(leased: &mut LeasedCore<T>, worker: usize) -> Result<(), Fault
     }
 }
 
-/// Applies the next entries of each index, at most so many of each, and answers whether a build runs that has one. Each has its turn, so that
+/// Applies the next entries of each index, at most so many of each, and answers whether a build runs whose indexes are all in order. Each has its turn, so that
 /// none is left behind while writers go on.
 fn catch_up<T: Table>(leased: &mut LeasedCore<T>, most: usize) -> Result<bool, Fault>
     ensures done { OnOk result (WorksOn leased.old leased.new) }

@@ -8,8 +8,9 @@
  *
  * Proved, for whatever list of calls: no call reads or writes beyond what is described here, each call returns and does
  * and answers what its definition says, and an index that becomes ready has one pair, key and address, of each row that
- * stands, and no other. Only tested is that a build comes to its end, the pages that sfbuild_progress tells, and that
- * sfbuild_close frees all. (docs/C.md, docs/PROMISES.md.) What the program has to keep, since nothing can check it:
+ * stands, and no other. Only tested is which piece of a build sfbuild_step does and how much of it, that it tells each
+ * BUSY and MEMORY and so comes to its end, the pages that sfbuild_progress tells, and that sfbuild_close frees all.
+ * (docs/C.md, docs/PROMISES.md.) What the program has to keep, since nothing can check it:
  *
  * - Pointers aren't null, point to what they are said to, and not into one another. Lengths are true. A pointer to
  *   no bytes isn't null either, except where a helper says that it may be.
@@ -40,7 +41,7 @@ extern "C" {
 #define SFBUILD_BUILD_MAX 8        /* indexes of a build */
 #define SFBUILD_INDEXES_MAX 80     /* bytes of these */
 #define SFBUILD_READY_MAX 32       /* ready indexes of a table */
-#define SFBUILD_QUOTA_MAX 1024     /* pages that a spool may lease */
+#define SFBUILD_QUOTA_MAX 1024     /* pages of a worker for an index */
 
 /* What a call answers. From 10 on it is the number of a refusal: the first cause that holds, in the order in which
  * the call lists them. A call that doesn't answer DONE writes through none of its pointers but the table's, except that
@@ -155,19 +156,21 @@ uint8_t sfbuild_pages(sfbuild *table, uint32_t *pages);
 /* A build starts, of the 1 to 8 indexes that the bytes spell (sfbuild_put_index), by 1 to 16 `workers` over 1 to 256
  * `ranges` of pages, which share the table's pages out evenly. `quota` is how many pages of 4,096 bytes each worker
  * has for the sorted pairs of each index, to SFBUILD_QUOTA_MAX: all of them, workers times indexes times quota, are
- * taken here, 4,248 bytes a page. (Of none, 0, the first that is wanted is NO_PAGE.) `*pages` is how many pages of the
- * table the build reads. BUILD_RUNNING; BAD_COLUMN of bytes that aren't those of indexes of the table; BAD_COUNT, also
- * of no index, or where more than 32 would be ready with these; BAD_RANGES. */
+ * taken here, 4,248 bytes a page. With a quota of 0 the first digest or seal that wants a page answers NO_PAGE.
+ * sfbuild_step gives range r to the worker r modulo `workers`: with fewer ranges than workers some have nothing to do.
+ * `*pages` is how many pages of the table the build reads. BUILD_RUNNING; BAD_COLUMN of bytes that aren't those of
+ * indexes of the table; BAD_COUNT, also of no index, or where more than 32 would be ready with these; BAD_RANGES. */
 uint8_t sfbuild_start(sfbuild *table, const uint8_t *indexes, size_t length, size_t workers, size_t ranges, size_t quota,
                       uint32_t *pages);
 
 /* Does the next piece of the build: copies a page and takes the keys of it, or seals a worker, or puts the pairs of
  * an index in order, or applies at most `most` changes of each index (1 to 256, or the nearest of these) and, where no
- * more than 1,024 are left then, switches. `*ready` tells whether it switched: then the build has ended, and
- * sfbuild_verdict tells of each index. So it ends unless writers make more changes between two pieces than one applies:
- * docs/C.md, "A build". NO_BUILD; BUSY; NO_PAGE. What a refused piece did before stays done. After BUSY it can be asked
- * again: the build waits for transactions to end. Where MEMORY or NO_PAGE spoiled the build, each piece answers so from
- * then on: give it up by sfbuild_abandon. (MEMORY of a copy, of changes or of a switch spoils nothing.) */
+ * more than 1,024 of all indexes together are left then, applies these too and switches. `*ready` tells whether it
+ * switched: then the build has ended, and sfbuild_verdict tells of each index. It needn't end where writers make as
+ * many changes between two pieces as one applies: docs/C.md, "A build". NO_BUILD; NO_PAGE; BUSY. What a refused piece
+ * did before stays done. After BUSY it can be asked again: the build waits for transactions to end. Where MEMORY or
+ * NO_PAGE spoiled the build, each piece answers so from then on: give it up by sfbuild_abandon. (MEMORY of a copy, of
+ * changes or of a switch spoils nothing.) */
 uint8_t sfbuild_step(sfbuild *table, size_t most, bool *ready);
 
 /* The pieces one by one, for a program that wants them in an order of its own. A digest, a seal or a load that
@@ -197,8 +200,8 @@ uint8_t sfbuild_feed(sfbuild *table, size_t index, size_t most, size_t *entries)
  * that were applied before MEMORY stay applied. */
 uint8_t sfbuild_apply(sfbuild *table, size_t index, size_t most, size_t *entries);
 
-/* From now on no transaction begins, until a switch decides or the build is given up, so that those that are open
- * come to their end, and no change is made. A program may ask for it at any time of a build. NO_BUILD. */
+/* From now on no transaction begins, until a switch decides or the build is given up. Those that are open may write
+ * on; once they have ended nothing changes until then. A program may ask for it at any time of a build. NO_BUILD. */
 uint8_t sfbuild_fence(sfbuild *table);
 
 /* Applies the changes that are left, decides, and ends the build: `*indexes` is how many it had. NO_BUILD;

@@ -51,7 +51,8 @@ UnlessDone status Holds = (status ≡ 0) ⊎ Holds
 abbrev pub UnlessTold : ℕ → Type 0 → Type 0
 UnlessTold status Holds = UnlessDone status ((status ≡ 4) ⊎ Holds)
 
--- an event of the core is replied so, for want of a page only where a spool of its worker was full; and what the newest switch decided stays
+-- an event of the core is replied so, for want of a page only where a spool of its worker was full, unless the build was spoiled before; and what the
+-- newest switch decided stays
 abbrev pub Steps : Event → Reply → KeptValue → KeptValue → Type 0
 Steps event reply before after =
     Step before.core event reply after.core × (after.decided ≡ before.decided) × HasPageCause WantedLeasedPage before.core event reply
