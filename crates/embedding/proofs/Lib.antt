@@ -1,6 +1,10 @@
+mod Counts
+mod Deciding
+mod DuePieces
 mod FirstColumns
 mod Looking
 mod Pieces
+mod Prepared
 mod Shapes
 mod SharedRows
 mod Switches

@@ -1,8 +1,8 @@
 -- Events of a build's work, one after another.
-use Rattle.std.proofs.Common.{◌≡◌, ◌≢◌, ℕ, Bool, true, false, List, [], ◌∷◌, ◌++◌, Option, None, Some, IsSomeAnd, Result, Ok, Err, IfOk, IfErr, OnOk, refl, sym, subst, inl, inr}
+use Rattle.std.proofs.Common.{◌≡◌, ◌≢◌, List, [], ◌∷◌, ◌++◌, refl, sym, ap, ap₂, ◌∙◌, subst, inl, inr}
+use Rattle.std.proofs.lemmas.List.{append_assoc}
 use Rattle.std.proofs.lemmas.List.Elements.{All-nil, All-append, All-push}
 use Rattle.keybytes.specs.declared.fault.Fault.{Fault}
-use Rattle.keybytes.specs.declared.fault.Fault.TheVariants.{Behind, Memory}
 use Rattle.build_events.specs.CoreState.{CoreState}
 use Rattle.build_events.specs.Steps.{Does, HasPageCause, IsWant, IsWorkWant, Run, Step}
 use Rattle.build_events.specs.declared.event.Event.{Event}
@@ -11,9 +11,8 @@ use Rattle.build_events.specs.declared.reply.Reply.{Reply}
 use Rattle.build_events.specs.declared.reply.Reply.TheVariants.{Refused}
 use Rattle.build_events.proofs.Runs.{run_more}
 use Rattle.leased_core.specs.Leasing.{KeepsBuild, WantedLeasedPage}
-use Rattle.embedding.specs.Decisions.{Decides, FailsToDecide}
-use Rattle.embedding.specs.KeptTables.{DecidedValue}
-use Rattle.embedding.specs.Pieces.{FailsToAdvance, HasWorked, IsDone, IsOfWork, IsStuck, StopsWork, WorksOn, WorksToTheEnd}
+use Rattle.embedding.specs.Pieces.{IsDone, IsOfWork, StopsWork, WorksOn}
+use Rattle.embedding.specs.Shapes.{DoesAll}
 
 -- work neither starts a build nor ends one
 pub keeps_build : (event : Event) → IsOfWork event → KeepsBuild event
@@ -71,42 +70,67 @@ works_further old mid new works more = record {
   run = run_on (λ s event. Unit {0}) old mid new works.events more.events works.replies more.replies works.run more.run;
 }
 
--- one event and no more
-pub worked_once : (old new : CoreState) (event : Event) (reply : Reply) → IsOfWork event → IsDone reply → Step old event reply new → HasWorked old new
-unfolding works_once works_more no_work
-worked_once old new event reply of_work done step =
-    (works_once old new event reply of_work done step, λ none. let one : event ∷ [] ≡ [] = none in cc)
-
-some_first : (events more : List Event) → events ≢ [] → events ++ more ≢ []
-some_first [] more some none = some refl
-some_first (event ∷ events) more some none = cc
-
-some_behind : (events more : List Event) → more ≢ [] → events ++ more ≢ []
+pub some_behind : (events more : List Event) → more ≢ [] → events ++ more ≢ []
 some_behind [] more some none = some none
 some_behind (event ∷ events) more some none = cc
 
-pub worked_then : (old mid new : CoreState) → HasWorked old mid → WorksOn mid new → HasWorked old new
-unfolding works_further
-worked_then old mid new worked more = (works_further old mid new worked.0 more, some_first worked.0.events more.events worked.1)
+-- Events that are done one after another.
 
-pub then_worked : (old mid new : CoreState) → WorksOn old mid → HasWorked mid new → HasWorked old new
+pub does_none : (s : CoreState) → DoesAll [] s s
+unfolding no_work
+does_none s = (no_work s, refl)
+
+pub does_once : (old new : CoreState) (event : Event) (reply : Reply) → IsOfWork event → IsDone reply → Step old event reply new → DoesAll (event ∷ []) old new
+unfolding works_once works_more no_work
+does_once old new event reply of_work done step = (works_once old new event reply of_work done step, refl)
+
+pub does_then : (first more : List Event) (old mid new : CoreState) → DoesAll first old mid → DoesAll more mid new → DoesAll (first ++ more) old new
 unfolding works_further
-then_worked old mid new works worked = (works_further old mid new works worked.0, some_behind works.events worked.0.events worked.1)
+does_then first more old mid new done then = (works_further old mid new done.0 then.0, ap₂ ◌++◌ done.1 then.1)
+
+-- where none is done nothing changes
+pub nothing_done : (old new : CoreState) → DoesAll [] old new → new ≡ old
+nothing_done old new done =
+    at done.0.replies (subst (λ (events : List Event). Run (λ s event. Unit {0}) old events done.0.replies new) done.1 done.0.run) where
+      at : (replies : List Reply) → Run (λ s event. Unit {0}) old [] replies new → new ≡ old
+      at [] run = run
+      at (reply ∷ replies) run = absurd run
+
+-- Events of which one is refused.
 
 pub stops_once :
-    (old new : CoreState) (event : Event) (fault : Fault) → IsOfWork event → Step old event (Refused fault) new
-    → HasPageCause WantedLeasedPage old event (Refused fault) → IsStuck old fault → StopsWork old fault new
-stops_once old new event fault of_work step full stuck =
-    record { mid = old; works = no_work old; event = event; of_work = of_work; refused = step; stuck = stuck; full = full }
+    (old new : CoreState) (event : Event) (fault : Fault) → Step old event (Refused fault) new → HasPageCause WantedLeasedPage old event (Refused fault)
+    → IsWorkWant fault → StopsWork (event ∷ []) old fault new
+unfolding no_work
+stops_once old new event fault step full want =
+    record { mid = old; works = no_work old; event = event; rest = []; order = refl; refused = step; want = want; full = full }
 
-pub stops_further : (old mid new : CoreState) (fault : Fault) → WorksOn old mid → StopsWork mid fault new → StopsWork old fault new
-stops_further old mid new fault works stops = record {
+-- it is the first of more that were due
+pub stops_before : (due more : List Event) (old new : CoreState) (fault : Fault) → StopsWork due old fault new → StopsWork (due ++ more) old fault new
+stops_before due more old new fault stops = record {
   mid = stops.mid;
-  works = works_further old mid stops.mid works stops.works;
+  works = stops.works;
   event = stops.event;
-  of_work = stops.of_work;
+  rest = stops.rest ++ more;
+  order = ap (λ (events : List Event). events ++ more) stops.order ∙ append_assoc stops.works.events (stops.event ∷ stops.rest) more;
   refused = stops.refused;
-  stuck = stops.stuck;
+  want = stops.want;
+  full = stops.full;
+}
+
+-- or it comes after some that were done
+pub stops_after :
+    (first due : List Event) (old mid new : CoreState) (fault : Fault) → DoesAll first old mid → StopsWork due mid fault new
+    → StopsWork (first ++ due) old fault new
+unfolding works_further
+stops_after first due old mid new fault done stops = record {
+  mid = stops.mid;
+  works = works_further old mid stops.mid done.0 stops.works;
+  event = stops.event;
+  rest = stops.rest;
+  order = ap₂ ◌++◌ (sym done.1) stops.order ∙ sym (append_assoc done.0.events stops.works.events (stops.event ∷ stops.rest));
+  refused = stops.refused;
+  want = stops.want;
   full = stops.full;
 }
 
@@ -157,78 +181,3 @@ refused_unchanged s new event fault of_work none (inl (told, is, inl (cause, sam
 refused_unchanged s new event fault of_work none (inl (told, is, inr (cause, want, after))) =
     absurd (none (subst IsWorkWant (same_fault fault told is) (work_want event told of_work want)))
 refused_unchanged s new event fault of_work none (inr (cause, does)) = absurd (done_not_refused s event fault new of_work does)
-
-pub ends_work :
-    (old mid new : CoreState) (number : ℕ) (decided : DecidedValue) → WorksOn old mid → Decides mid number decided new → WorksToTheEnd old decided new
-ends_work old mid new number decided works decides = record { mid = mid; works = works; number = number; decides = decides }
-
-pub works_in_vain : (old mid new : CoreState) (fault : Fault) → WorksOn old mid → FailsToDecide mid fault new → FailsToAdvance old fault new
-works_in_vain old mid new fault works fails = inr (record { mid = mid; works = works; fails = fails })
-
--- a switch that is refused since it is behind changes nothing
-behind_unchanged : (s new : CoreState) (left : ℕ) → FailsToDecide s (Behind left) new → new ≡ s
-behind_unchanged s new left (inl (memory, building, same)) = same
-behind_unchanged s new left (inr (inl (told, is, inl (cause, same)))) = same
-behind_unchanged s new left (inr (inl (told, is, inr (cause, want, after)))) =
-    absurd (let both : Refused (Behind left) ≡ Refused told = is in let memory : told ≡ Memory = want in cc)
-behind_unchanged s new left (inr (inr (cause, does))) = absurd (let is = does.1 in cc)
-
--- so what was worked before it stays
-pub worked_behind : (old mid new : CoreState) (left : ℕ) → HasWorked old mid → FailsToDecide mid (Behind left) new → HasWorked old new
-worked_behind old mid new left worked fails = subst (HasWorked old) (sym (behind_unchanged mid new left fails)) worked
-
--- the same of a call that works, if it doesn't stop
-pub worked_if_ok :
-    {T : Type 0} (told : Result T Fault) (old mid new : CoreState) → WorksOn old mid → OnOk told (HasWorked mid new) → OnOk told (HasWorked old new)
-worked_if_ok (Ok x) old mid new works worked = then_worked old mid new works worked
-worked_if_ok (Err fault) old mid new works worked = tt
-
-pub stops_if_err :
-    {T : Type 0} (told : Result T Fault) (old mid new : CoreState) → WorksOn old mid → IfErr told (λ fault. StopsWork mid fault new)
-    → IfErr told (λ fault. StopsWork old fault new)
-stops_if_err (Ok x) old mid new works stops = tt
-stops_if_err (Err fault) old mid new works stops = stops_further old mid new fault works stops
-
-pub works_if_ok :
-    {T : Type 0} (told : Result T Fault) (old mid new : CoreState) → WorksOn old mid → OnOk told (WorksOn mid new) → OnOk told (WorksOn old new)
-works_if_ok (Ok x) old mid new works more = works_further old mid new works more
-works_if_ok (Err fault) old mid new works more = tt
-
-pub then_more :
-    (told : Result Bool Fault) (old mid new : CoreState) → WorksOn old mid → IfOk told (λ more. more ≡ true → HasWorked mid new)
-    → IfOk told (λ more. more ≡ true → HasWorked old new)
-then_more (Ok more) old mid new works worked = λ is. then_worked old mid new works (worked is)
-then_more (Err fault) old mid new works worked = tt
-
--- and the end of a build, behind more of its work
-
-ends_work_further :
-    (decided : Option DecidedValue) (old mid new : CoreState) → WorksOn old mid → IsSomeAnd decided (λ told. WorksToTheEnd mid told new)
-    → IsSomeAnd decided (λ told. WorksToTheEnd old told new)
-ends_work_further None old mid new works ends = absurd ends
-ends_work_further (Some decided) old mid new works ends =
-    record { mid = ends.mid; works = works_further old mid ends.mid works ends.works; number = ends.number; decides = ends.decides }
-
-pub ends_further :
-    (told : Result Bool Fault) (decided : Option DecidedValue) (old mid new : CoreState) → WorksOn old mid
-    → IfOk told (λ ready. ready ≡ true → IsSomeAnd decided (λ value. WorksToTheEnd mid value new))
-    → IfOk told (λ ready. ready ≡ true → IsSomeAnd decided (λ value. WorksToTheEnd old value new))
-ends_further (Ok ready) decided old mid new works ends = λ is. ends_work_further decided old mid new works (ends is)
-ends_further (Err fault) decided old mid new works ends = tt
-
-pub goes_further :
-    (told : Result Bool Fault) (P : Type 0) (old mid new : CoreState) → WorksOn old mid
-    → IfOk told (λ ready. ready ≡ false → HasWorked mid new × P) → IfOk told (λ ready. ready ≡ false → HasWorked old new × P)
-goes_further (Ok ready) P old mid new works goes = λ is. (then_worked old mid new works (goes is).0, (goes is).1)
-goes_further (Err fault) P old mid new works goes = tt
-
-fails_to_advance_further : (old mid new : CoreState) (fault : Fault) → WorksOn old mid → FailsToAdvance mid fault new → FailsToAdvance old fault new
-fails_to_advance_further old mid new fault works (inl stops) = inl (stops_further old mid new fault works stops)
-fails_to_advance_further old mid new fault works (inr vain) =
-    inr (record { mid = vain.mid; works = works_further old mid vain.mid works vain.works; fails = vain.fails })
-
-pub fails_further :
-    (told : Result Bool Fault) (old mid new : CoreState) → WorksOn old mid → IfErr told (λ fault. FailsToAdvance mid fault new)
-    → IfErr told (λ fault. FailsToAdvance old fault new)
-fails_further (Ok ready) old mid new works fails = tt
-fails_further (Err fault) old mid new works fails = fails_to_advance_further old mid new fault works fails

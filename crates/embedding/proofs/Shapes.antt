@@ -1,13 +1,12 @@
 -- What a build has is there until it ends, and an event that asks for it is refused only where nothing can go on.
-use Rattle.std.proofs.Common.{◌≡◌, ℕ, zero, suc, ◌+◌, ◌<◌, ◌≤◌, Bool, true, false, List, [], ◌∷◌, ◌++◌, length, Option, Some, None, All, Result, Ok, Err, IfErr}
+use Rattle.std.proofs.Common.{◌≡◌, ℕ, zero, suc, ◌+◌, ◌<◌, Bool, true, false, List, [], ◌∷◌, ◌++◌, length, Option, Some, None, All, Result, Ok, Err, IfErr}
 use Rattle.std.proofs.Common.{refl, sym, ap, ◌∙◌, subst, inl, inr, arith}
-use Rattle.std.specs.Prelude.{not, nat_le, nat_lt, is_some, count_by, set, ◌⊎◌, ◌||◌, if◌then◌else◌}
-use Rattle.std.specs.List.{position, position_or_len, range_with_len, slice_get}
+use Rattle.std.specs.Prelude.{not, nat_le, is_some, set, ◌⊎◌, ◌||◌, if◌then◌else◌}
+use Rattle.std.specs.List.{range_with_len, slice_get}
 use Rattle.std.specs.Option.{option_map}
-use Rattle.std.proofs.lemmas.Bool.{cases_Bool, cases_eq, cases_lt, cond-true, cond-false, false≢true, lt-leb, lt-ltb, not-false}
+use Rattle.std.proofs.lemmas.Bool.{cases_Bool, cases_eq, cases_lt, cond-true, cond-false, false≢true, lt-leb}
 use Rattle.std.proofs.lemmas.List.{get_or-set_other, get_or-set_same, get_or_past}
 use Rattle.std.proofs.lemmas.List.Elements.{All-head, All-tail}
-use Rattle.std.proofs.lemmas.List.Sums.{count_by-le-length, fails_before_first}
 use Rattle.std.proofs.lemmas.Option.{same_Some}
 use Rattle.keybytes.specs.Faults.{first_cause}
 use Rattle.keybytes.specs.declared.fault.Fault.{Fault}
@@ -18,21 +17,20 @@ use Rattle.build_events.specs.BuildSteps.{apply_refusal, index_refusal, load_ref
 use Rattle.build_events.specs.CoreState.{BuildState, CoreState, IndexState, LiveState, WorkState, with_live}
 use Rattle.build_events.specs.Ranges.{first_that, next_page, open_range}
 use Rattle.build_events.specs.Steps.{Does, HasPageCause, IsWorkWant, Run, Step, refusal}
-use Rattle.build_events.specs.Workers.{index_at, unloaded_index, unsealed_worker, waiting}
+use Rattle.build_events.specs.Workers.{index_at, is_sealed, unsealed_worker, waiting, worker_at}
 use Rattle.build_events.specs.declared.event.Event.{Event}
 use Rattle.build_events.specs.declared.event.Event.TheVariants.{Begin, Insert, Update, Delete, Undo, Commit, Start, Scan, Digest, Seal, Load, Feed, Apply, Fence, Switch, Abandon}
 use Rattle.build_events.specs.declared.reply.Reply.{Reply}
 use Rattle.build_events.specs.declared.reply.Reply.TheVariants.{Refused}
 use Rattle.leased_core.specs.Leasing.{WantedLeasedPage}
-use Rattle.embedding.specs.Pieces.{IsDone, IsOfWork, IsStuck, StopsWork, WorksOn}
-use Rattle.embedding.specs.Shapes.{HasAllLoaded, HasCounts, HasIndex, HasLoaded, HasOpenRange, HasPageIn, HasWorker, IsHeldUp, IsPutOff, IsThere}
-use Rattle.embedding.proofs.Pieces.{done_not_refused, no_work, refused_unchanged, same_fault, stops_once, work_want}
+use Rattle.embedding.specs.Counts.{HasLaws}
+use Rattle.embedding.specs.Pieces.{IsDone, IsOfWork, StopsWork, WorksOn}
+use Rattle.embedding.specs.Shapes.{HasIndex, HasLoaded, HasOpenRange, HasWorker, IsHeldUp, IsPutOff, IsThere, IsUnsealed, ScansIfRoom}
+use Rattle.embedding.proofs.Counts.{laws_of, on_build}
+use Rattle.embedding.proofs.Deciding.{first_or, if_told, spoiled_want}
+use Rattle.embedding.proofs.Pieces.{done_not_refused, same_fault, stops_once, work_want}
 
 -- What events of work keep.
-
-on_build : (o : Option BuildState) (P : BuildState → Type 0) → OnBuild o P → (b : BuildState) × (o ≡ Some b) × P b
-on_build None P on = absurd on
-on_build (Some b) P on = (b, refl, on)
 
 -- what was in order is in order
 abbrev StayLoaded : List IndexState → List IndexState → Type 0
@@ -168,26 +166,22 @@ pub keeps_worker : (s new : CoreState) (worker : ℕ) → WorksOn s new → HasW
 keeps_worker s new worker works has =
     run_keeps (HasWorker worker) (λ old after on. worker_stays old after worker on) s new works.events works.replies works.of_work works.done works.run has
 
+pub keeps_worker_scan :
+    (s new : CoreState) (range worker : ℕ) → ScansIfRoom range worker s new → HasWorker worker s → HasWorker worker new
+keeps_worker_scan s new range worker (inl scanned) has = keeps_worker s new worker scanned.0 has
+keeps_worker_scan s new range worker (inr (full, same)) has = subst (HasWorker worker) (sym same) has
+
 pub keeps_loaded : (s new : CoreState) (index : ℕ) → WorksOn s new → HasLoaded index s → HasLoaded index new
 keeps_loaded s new index works has =
     run_keeps (HasLoaded index) (λ old after on. loaded_stays old after index on) s new works.events works.replies works.of_work works.done works.run has
 
 -- Why an event of work is refused.
 
--- no cause stands before these
-spoiled_or : (spoiled rest : Option Fault) (fault : Fault) → first_cause spoiled rest ≡ Some fault → (rest ≡ Some fault) ⊎ (spoiled ≡ Some fault)
-spoiled_or None rest fault is = inl is
-spoiled_or (Some told) rest fault is = inr is
-
 -- the count is no cause
 counted :
     (count n : ℕ) (rest : Option Fault) (fault : Fault) → n < count → first_cause (cause_if (nat_le count n) BadCount) rest ≡ Some fault
     → rest ≡ Some fault
 counted count n rest fault less is = subst (λ (t : Bool). first_cause (cause_if t BadCount) rest ≡ Some fault) (lt-leb count n less) is
-
-if_full : (test : Bool) (fault : Fault) → cause_if test RingFull ≡ Some fault → fault ≡ RingFull
-if_full true fault is = sym (same_Some RingFull fault is)
-if_full false fault is = absurd (cc)
 
 if_unsealed : (o : Option ℕ) (fault : Fault) → option_map NotSealed o ≡ Some fault → (worker : ℕ) × (fault ≡ NotSealed worker)
 if_unsealed None fault is = absurd (cc)
@@ -211,9 +205,9 @@ scan_cause (Some b) work range worker fault page there is =
     let rest : Option Fault = first_cause (range_refusal (next_page b range)) ring in
     let fits : first_cause work.spoiled rest ≡ Some fault =
     subst (λ (t : Bool). first_cause (cause_if t BadCount) (first_cause work.spoiled rest) ≡ Some fault) tests is in
-    elim (spoiled_or work.spoiled rest fault fits) [
-      | inl why ↦ inl (if_full (nat_le 4 (waiting b work worker)) fault (has_page (next_page b range) ring page.1 why))
-      | inr spoiled ↦ inr spoiled
+    elim (first_or work.spoiled rest fault fits) [
+      | inl spoiled ↦ inr spoiled
+      | inr why ↦ inl (if_told (nat_le 4 (waiting b work worker)) RingFull fault (has_page (next_page b range) ring page.1 why))
     ] where
       has_page : (page : Option ℕ) (rest : Option Fault) → is_some page ≡ true → first_cause (range_refusal page) rest ≡ Some fault → rest ≡ Some fault
       has_page None rest none is = absurd (false≢true none)
@@ -227,10 +221,10 @@ load_cause None s index fault there scanned is = absurd there
 load_cause (Some b) s index fault there scanned is =
     let unsealed : Option ℕ = unsealed_worker b s.live.heap.log s.work in
     let rest : Option Fault = first_cause (option_map NotScanned (open_range b)) (option_map NotSealed unsealed) in
-    elim (spoiled_or s.work.spoiled rest fault (counted (length b.specs) index (first_cause s.work.spoiled rest) fault there is)) [
-      | inl why ↦ inl (if_unsealed unsealed fault
+    elim (first_or s.work.spoiled rest fault (counted (length b.specs) index (first_cause s.work.spoiled rest) fault there is)) [
+      | inl spoiled ↦ inr spoiled
+      | inr why ↦ inl (if_unsealed unsealed fault
           (subst (λ (o : Option ℕ). first_cause (option_map NotScanned o) (option_map NotSealed unsealed) ≡ Some fault) (sym scanned) why))
-      | inr spoiled ↦ inr spoiled
     ]
 
 feed_cause :
@@ -246,62 +240,78 @@ apply_cause :
 apply_cause None work index fault there loaded is = absurd there
 apply_cause (Some b) work index fault there loaded is =
     let rest : Option Fault = cause_if (not (index_at work.indexes index).loaded) (NotLoaded index) in
-    elim (spoiled_or work.spoiled rest fault (counted (length b.specs) index (first_cause work.spoiled rest) fault there is)) [
-      | inl why ↦ absurd (let none : None ≡ Some fault = subst (λ (t : Bool). cause_if (not t) (NotLoaded index) ≡ Some fault) loaded why in cc)
-      | inr spoiled ↦ spoiled
+    elim (first_or work.spoiled rest fault (counted (length b.specs) index (first_cause work.spoiled rest) fault there is)) [
+      | inl spoiled ↦ spoiled
+      | inr why ↦ absurd (let none : None ≡ Some fault = subst (λ (t : Bool). cause_if (not t) (NotLoaded index) ≡ Some fault) loaded why in cc)
     ]
 
-either_stuck : (s : CoreState) (event : Event) (fault : Fault) → IsPutOff event fault ⊎ (s.work.spoiled ≡ Some fault) → IsPutOff event fault ⊎ IsStuck s fault
-either_stuck s event fault (inl off) = inl off
-either_stuck s event fault (inr spoiled) = inr (inl spoiled)
+-- only want has spoiled a build
+spoiled_here :
+    (s : CoreState) (fault : Fault) (P : BuildState → Type 0) → HasLaws s → OnBuild s.live.build P → s.work.spoiled ≡ Some fault → IsWorkWant fault
+spoiled_here s fault P laws on is =
+    let at = on_build s.live.build P on in spoiled_want s.work.spoiled fault (laws_of s at.0 at.1 laws).spoiled is
 
-cause_told : (s : CoreState) (event : Event) (fault : Fault) → IsThere event s → refusal s event ≡ Some fault → IsPutOff event fault ⊎ IsStuck s fault
-cause_told s Begin fault there is = absurd there
-cause_told s (Insert txn row) fault there is = absurd there
-cause_told s (Update txn rid row) fault there is = absurd there
-cause_told s (Delete txn rid) fault there is = absurd there
-cause_told s (Undo txn) fault there is = absurd there
-cause_told s (Commit txn) fault there is = absurd there
-cause_told s (Start plan) fault there is = absurd there
-cause_told s (Scan range worker) fault there is =
-    either_stuck s (Scan range worker) fault (scan_cause s.live.build s.work range worker fault there.0 there.1 is)
-cause_told s (Digest worker) fault there is = inr (inl (worker_cause s.live.build s.work worker fault there is))
-cause_told s (Seal worker) fault there is = inr (inl (worker_cause s.live.build s.work worker fault there is))
-cause_told s (Load index) fault there is = either_stuck s (Load index) fault (load_cause s.live.build s index fault there.0 there.1 is)
-cause_told s (Feed index most) fault there is = absurd (feed_cause s.live.build index fault there is)
-cause_told s (Apply index most) fault there is = inr (inl (apply_cause s.live.build s.work index fault there.0 there.1 is))
-cause_told s Fence fault there is = absurd there
-cause_told s Switch fault there is = absurd there
-cause_told s Abandon fault there is = absurd there
+either_want :
+    (s : CoreState) (fault : Fault) (Off : Type 0) (P : BuildState → Type 0) → HasLaws s → OnBuild s.live.build P → Off ⊎ (s.work.spoiled ≡ Some fault)
+    → Off ⊎ IsWorkWant fault
+either_want s fault Off P laws on (inl off) = inl off
+either_want s fault Off P laws on (inr spoiled) = inr (spoiled_here s fault P laws on spoiled)
+
+cause_told :
+    (s : CoreState) (event : Event) (fault : Fault) → HasLaws s → IsThere event s → refusal s event ≡ Some fault → IsPutOff event fault ⊎ IsWorkWant fault
+cause_told s Begin fault laws there is = absurd there
+cause_told s (Insert txn row) fault laws there is = absurd there
+cause_told s (Update txn rid row) fault laws there is = absurd there
+cause_told s (Delete txn rid) fault laws there is = absurd there
+cause_told s (Undo txn) fault laws there is = absurd there
+cause_told s (Commit txn) fault laws there is = absurd there
+cause_told s (Start plan) fault laws there is = absurd there
+cause_told s (Scan range worker) fault laws there is =
+    either_want s fault (IsPutOff (Scan range worker) fault) (λ b. worker < b.workers) laws there.1
+    (scan_cause s.live.build s.work range worker fault there.0 there.1 is)
+cause_told s (Digest worker) fault laws there is =
+    inr (spoiled_here s fault (λ b. worker < b.workers) laws there (worker_cause s.live.build s.work worker fault there is))
+cause_told s (Seal worker) fault laws there is =
+    inr (spoiled_here s fault (λ b. worker < b.workers) laws there (worker_cause s.live.build s.work worker fault there is))
+cause_told s (Load index) fault laws there is =
+    either_want s fault (IsPutOff (Load index) fault) (λ b. index < length b.specs) laws there.0
+    (load_cause s.live.build s index fault there.0 there.1 is)
+cause_told s (Feed index most) fault laws there is = absurd (feed_cause s.live.build index fault there is)
+cause_told s (Apply index most) fault laws there is =
+    inr (spoiled_here s fault (λ b. index < length b.specs) laws there.0 (apply_cause s.live.build s.work index fault there.0 there.1 is))
+cause_told s Fence fault laws there is = absurd there
+cause_told s Switch fault laws there is = absurd there
+cause_told s Abandon fault laws there is = absurd there
 
 why_refused :
-    (s new : CoreState) (event : Event) (fault : Fault) → IsOfWork event → IsThere event s → Step s event (Refused fault) new
-    → IsPutOff event fault ⊎ IsStuck s fault
-why_refused s new event fault of_work there (inr (none, does)) = absurd (done_not_refused s event fault new of_work does)
-why_refused s new event fault of_work there (inl (told, is, inl (cause, same))) =
-    cause_told s event fault there (cause ∙ ap (λ f. Some f) (same_fault fault told is))
-why_refused s new event fault of_work there (inl (told, is, inr (none, want, after))) =
-    inr (inr (subst IsWorkWant (same_fault fault told is) (work_want event told of_work want)))
+    (s new : CoreState) (event : Event) (fault : Fault) → HasLaws s → IsOfWork event → IsThere event s → Step s event (Refused fault) new
+    → IsPutOff event fault ⊎ IsWorkWant fault
+why_refused s new event fault laws of_work there (inr (none, does)) = absurd (done_not_refused s event fault new of_work does)
+why_refused s new event fault laws of_work there (inl (told, is, inl (cause, same))) =
+    cause_told s event fault laws there (cause ∙ ap (λ f. Some f) (same_fault fault told is))
+why_refused s new event fault laws of_work there (inl (told, is, inr (none, want, after))) =
+    inr (subst IsWorkWant (same_fault fault told is) (work_want event told of_work want))
 
 pub held_up :
-    (s new : CoreState) (event : Event) (fault : Fault) → IsOfWork event → IsThere event s → Step s event (Refused fault) new
+    (s new : CoreState) (event : Event) (fault : Fault) → HasLaws s → IsOfWork event → IsThere event s → Step s event (Refused fault) new
     → HasPageCause WantedLeasedPage s event (Refused fault) → IsHeldUp s event fault new
-held_up s new event fault of_work there step full = record { refused = step; full = full; why = why_refused s new event fault of_work there step }
+held_up s new event fault laws of_work there step full =
+    record { refused = step; full = full; why = why_refused s new event fault laws of_work there step }
 
 -- what isn't put off stops
 pub stops_unless_off :
-    (s new : CoreState) (event : Event) (fault : Fault) → IsOfWork event → (IsPutOff event fault → ⊥) → IsHeldUp s event fault new → StopsWork s fault new
-stops_unless_off s new event fault of_work on held = stops_once s new event fault of_work held.refused held.full (elim held.why [
+    (s new : CoreState) (event : Event) (fault : Fault) → (IsPutOff event fault → ⊥) → IsHeldUp s event fault new → StopsWork (event ∷ []) s fault new
+stops_unless_off s new event fault on held = stops_once s new event fault held.refused held.full (elim held.why [
   | inl off ↦ absurd (on off)
-  | inr stuck ↦ stuck
+  | inr want ↦ want
 ])
 
 -- so a call that may only be held up stops
 pub stops_if_held :
-    {T : Type 0} (told : Result T Fault) (s new : CoreState) (event : Event) → IsOfWork event → ((fault : Fault) → IsPutOff event fault → ⊥)
-    → IfErr told (λ fault. IsHeldUp s event fault new) → IfErr told (λ fault. StopsWork s fault new)
-stops_if_held (Ok x) s new event of_work on held = tt
-stops_if_held (Err fault) s new event of_work on held = stops_unless_off s new event fault of_work (on fault) held
+    {T : Type 0} (told : Result T Fault) (s new : CoreState) (event : Event) → ((fault : Fault) → IsPutOff event fault → ⊥)
+    → IfErr told (λ fault. IsHeldUp s event fault new) → IfErr told (λ fault. StopsWork (event ∷ []) s fault new)
+stops_if_held (Ok x) s new event on held = tt
+stops_if_held (Err fault) s new event on held = stops_unless_off s new event fault (on fault) held
 
 -- a full ring and an unsealed worker aren't want of a page or of memory
 pub full_wants_none : (fault : Fault) → fault ≡ RingFull → IsWorkWant fault → ⊥
@@ -312,15 +322,23 @@ pub unsealed_wants_none : (fault : Fault) (worker : ℕ) → fault ≡ NotSealed
 unsealed_wants_none fault worker is (inl page) = let bad : NotSealed worker ≡ NoPage = sym is ∙ page in cc
 unsealed_wants_none fault worker is (inr memory) = let bad : NotSealed worker ≡ Memory = sym is ∙ memory in cc
 
--- and what is put off changes nothing
-pub unchanged_if_off :
-    (s new : CoreState) (event : Event) (fault : Fault) → IsOfWork event → IsHeldUp s event fault new → (IsWorkWant fault → ⊥) → WorksOn s new
-unchanged_if_off s new event fault of_work held none =
-    subst (WorksOn s) (sym (refused_unchanged s new event fault of_work none held.refused)) (no_work s)
+-- and what is put off changes nothing, and has its cause
+pub off_told :
+    (s new : CoreState) (event : Event) (fault : Fault) → IsOfWork event → IsHeldUp s event fault new → (IsWorkWant fault → ⊥)
+    → (refusal s event ≡ Some fault) × (new ≡ s)
+off_told s new event fault of_work held none = of_step held.refused where
+  of_step : Step s event (Refused fault) new → (refusal s event ≡ Some fault) × (new ≡ s)
+  of_step (inl (told, is, inl (cause, same))) = (cause ∙ ap (λ f. Some f) (same_fault fault told is), same)
+  of_step (inl (told, is, inr (cause, want, after))) = absurd (none (subst IsWorkWant (same_fault fault told is) (work_want event told of_work want)))
+  of_step (inr (cause, does)) = absurd (done_not_refused s event fault new of_work does)
 
--- What a look at a build tells.
+pub scan_off :
+    (s new : CoreState) (range worker : ℕ) (fault : Fault) → fault ≡ RingFull → IsHeldUp s (Scan range worker) fault new → ScansIfRoom range worker s new
+scan_off s new range worker fault is held =
+    let told = off_told s new (Scan range worker) fault tt held (full_wants_none fault is) in inr (told.0 ∙ ap (λ f. Some f) is, told.1)
 
-found : (test : ℕ → Bool) (first count n : ℕ) → first_that test (range_with_len first count) ≡ Some n → (n < first + count) × (test n ≡ true)
+-- what is found passes the test
+pub found : (test : ℕ → Bool) (first count n : ℕ) → first_that test (range_with_len first count) ≡ Some n → (n < first + count) × (test n ≡ true)
 found test first zero n is = absurd (cc)
 found test first (suc count) n is =
     let rest : Option ℕ = first_that test (range_with_len (first + 1) count) in
@@ -333,46 +351,38 @@ found test first (suc count) n is =
           (omega (arith, later.0), later.1)
     ]
 
--- the lowest range with a page is there, and has one
-pub page_in : (s : CoreState) (range : ℕ) → HasOpenRange (Some range) s → HasPageIn range s
-page_in s range open_at = at_build s.live.build open_at where
-  at_build :
-      (o : Option BuildState) → OnBuild o (λ b. Some range ≡ open_range b)
-      → OnBuild o (λ b. (range < length b.ends) × (is_some (next_page b range) ≡ true))
-  at_build None is = absurd is
-  at_build (Some b) is =
-      let it = found (λ r. is_some (next_page b r)) 0 (length b.ends) range (sym is) in
-      (omega (arith, it.0), it.1)
+-- the worker that a load waits for is one of the build
+unsealed_there : (s : CoreState) (index worker : ℕ) → HasLaws s → HasIndex index s → HasOpenRange None s → IsUnsealed index worker s → HasWorker worker s
+unsealed_there s index worker laws there scanned unsealed = at s.live.build refl where
+  at : (o : Option BuildState) → s.live.build ≡ o → HasWorker worker s
+  at None none = absurd (subst (λ (o : Option BuildState). OnBuild o (λ b. index < length b.specs)) none there)
+  at (Some b) runs =
+      let work = laws_of s b runs laws in
+      let less : index < length b.specs = subst (λ (o : Option BuildState). OnBuild o (λ it. index < length it.specs)) runs there in
+      let copied : None ≡ open_range b = subst (λ (o : Option BuildState). OnBuild o (λ it. None ≡ open_range it)) runs scanned in
+      let lowest : Option ℕ = unsealed_worker b s.live.heap.log s.work in
+      let is : load_refusal b s index ≡ Some (NotSealed worker) =
+      subst (λ (o : Option BuildState). build_cause o (λ it. load_refusal it s index) ≡ Some (NotSealed worker)) runs unsealed in
+      let rest : Option Fault = first_cause (option_map NotScanned (open_range b)) (option_map NotSealed lowest) in
+      let few : worker < length s.work.workers =
+      elim (first_or s.work.spoiled rest (NotSealed worker)
+      (counted (length b.specs) index (first_cause s.work.spoiled rest) (NotSealed worker) less is)) [
+        | inl spoiled ↦ absurd (unsealed_wants_none (NotSealed worker) worker refl (spoiled_want s.work.spoiled (NotSealed worker) work.spoiled spoiled))
+        | inr why ↦ lowest_there lowest refl
+            (subst (λ (o : Option ℕ). first_cause (option_map NotScanned o) (option_map NotSealed lowest) ≡ Some (NotSealed worker)) (sym copied) why)
+      ] in
+      subst (λ (o : Option BuildState). OnBuild o (λ it. worker < it.workers)) (sym runs) (omega (arith, few, work.workers)) where
+        lowest_there : (o : Option ℕ) → o ≡ unsealed_worker b s.live.heap.log s.work → option_map NotSealed o ≡ Some (NotSealed worker) → worker < length s.work.workers
+        lowest_there None is bad = absurd (cc)
+        lowest_there (Some found_at) is same =
+            let here : found_at ≡ worker = cc in
+            let it = found (λ w. not (is_sealed b s.live.heap.log w (worker_at s.work w))) 0 (length s.work.workers) found_at (sym is) in
+            omega (arith, it.0, here)
 
--- and so is each worker and each index below their numbers
-pub worker_of : (s : CoreState) (workers indexes worker : ℕ) → HasCounts workers indexes s → worker < workers → HasWorker worker s
-worker_of s workers indexes worker counts less = at_build s.live.build counts where
-  at_build : (o : Option BuildState) → OnBuild o (λ b. (workers ≡ b.workers) × (indexes ≡ length b.specs)) → OnBuild o (λ b. worker < b.workers)
-  at_build None is = absurd is
-  at_build (Some b) is = omega (arith, is.0, less)
-
-pub index_of : (s : CoreState) (workers indexes index : ℕ) → HasCounts workers indexes s → index < indexes → HasIndex index s
-index_of s workers indexes index counts less = at_build s.live.build counts where
-  at_build : (o : Option BuildState) → OnBuild o (λ b. (workers ≡ b.workers) × (indexes ≡ length b.specs)) → OnBuild o (λ b. index < length b.specs)
-  at_build None is = absurd is
-  at_build (Some b) is = omega (arith, is.1, less)
-
--- where none is the lowest that isn't in order each is
-each_loaded :
-    (indexes : List IndexState) (index : ℕ) → position (λ (it : IndexState). not it.loaded) indexes ≡ None → index < length indexes
-    → (index_at indexes index).loaded ≡ true
-each_loaded indexes index none less =
-    not-false (index_at indexes index).loaded (elim (cases_lt (position_or_len (λ (it : IndexState). not it.loaded) indexes) (length indexes)) [
-      | inl some ↦ absurd (let place : ℕ = position_or_len (λ (it : IndexState). not it.loaded) indexes in
-          let bad : Some place ≡ None = sym (cond-true (nat_lt place (length indexes)) (Some place) None (lt-ltb place (length indexes) some)) ∙ none in cc)
-      | inr all ↦ fails_before_first (λ (it : IndexState). not it.loaded) indexes index (record { loaded = false; applied = 0 }) (omega (arith, all, less))
-    ])
-
--- and as many as are in order are all, up to their number
-pub all_loaded :
-    (s : CoreState) (workers indexes count : ℕ) → HasCounts workers indexes s → unloaded_index s.work ≡ None → count ≤ indexes
-    → count ≤ count_by (λ (it : IndexState). it.loaded) s.work.indexes → HasAllLoaded count s
-all_loaded s workers indexes count counts none within few index less = (
-  index_of s workers indexes index counts (omega (arith, within, less)),
-  each_loaded s.work.indexes index none (omega (arith, few, less, count_by-le-length (λ (it : IndexState). it.loaded) s.work.indexes)),
-)
+pub load_off :
+    (s new : CoreState) (index worker : ℕ) (fault : Fault) → HasLaws s → HasIndex index s → HasOpenRange None s → fault ≡ NotSealed worker
+    → IsHeldUp s (Load index) fault new → IsUnsealed index worker s × HasWorker worker s × (new ≡ s)
+load_off s new index worker fault laws there scanned is held =
+    let told = off_told s new (Load index) fault tt held (unsealed_wants_none fault worker is) in
+    let unsealed : IsUnsealed index worker s = told.0 ∙ ap (λ f. Some f) is in
+    (unsealed, unsealed_there s index worker laws there scanned unsealed, told.1)

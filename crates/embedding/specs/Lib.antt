@@ -1,3 +1,4 @@
+pub mod Counts
 pub mod Decisions
 pub mod KeptTables
 pub mod Lookups

@@ -1,9 +1,19 @@
 -- How far a build is.
-use Rattle.std.specs.Prelude.{ℕ, zero, suc, ◌+◌, List, length, Option, Some, None}
+use Rattle.std.specs.Prelude.{ℕ, zero, suc, ◌+◌, min, List, length, Option, Some, None}
 use Rattle.std.specs.List.{slice_get}
 use Rattle.heap_log.specs.declared.record.LogRec.{LogRec}
 use Rattle.build_events.specs.CoreState.{BuildState, LiveState}
 use Rattle.build_events.specs.Workers.{unfed}
+
+-- how many pages the build reads that runs
+abbrev pub pages_read : Option BuildState → ℕ
+pages_read None = 0
+pages_read (Some b) = b.pages
+
+-- and how many it has copied, up to what 32 bits hold, as no table has more
+abbrev pub pages_copied : Option BuildState → ℕ
+pages_copied None = 0
+pages_copied (Some b) = min (length b.scans) 4294967295
 
 -- how many indexes the build has that runs
 abbrev pub index_count : Option BuildState → ℕ

@@ -1,21 +1,21 @@
 -- What a build has, of all that an event of its work may ask for.
-use Rattle.std.specs.Prelude.{◌≡◌, ◌⊎◌, ℕ, ◌<◌, true, length, is_some, Option, None}
+use Rattle.std.specs.Prelude.{◌≡◌, ◌⊎◌, ℕ, ◌<◌, true, List, [], ◌∷◌, length, is_some, Option, Some, None}
 use Rattle.keybytes.specs.declared.fault.Fault.{Fault}
 use Rattle.keybytes.specs.declared.fault.Fault.TheVariants.{NotSealed, RingFull}
 use Rattle.build_events.specs.BuildSteps.{OnBuild}
 use Rattle.build_events.specs.CoreState.{CoreState}
 use Rattle.build_events.specs.Ranges.{next_page, open_range}
-use Rattle.build_events.specs.Steps.{HasPageCause, Step}
+use Rattle.build_events.specs.Steps.{HasPageCause, IsWorkWant, Step, refusal}
 use Rattle.build_events.specs.Workers.{index_at}
 use Rattle.build_events.specs.declared.event.Event.{Event}
 use Rattle.build_events.specs.declared.event.Event.TheVariants.{Begin, Insert, Update, Delete, Undo, Commit, Start, Scan, Digest, Seal, Load, Feed, Apply, Fence, Switch, Abandon}
 use Rattle.build_events.specs.declared.reply.Reply.TheVariants.{Refused}
 use Rattle.leased_core.specs.Leasing.{WantedLeasedPage}
-use Rattle.embedding.specs.Pieces.{IsStuck}
+use Rattle.embedding.specs.Pieces.{IsCopy, IsOrdering, StopsWork, WorksOn}
 
--- so many workers and indexes has the build that runs
-abbrev pub HasCounts : ℕ → ℕ → CoreState → Type 0
-HasCounts workers indexes s = OnBuild s.live.build (λ b. (workers ≡ b.workers) × (indexes ≡ length b.specs))
+-- so many workers has the build that runs
+abbrev pub HasWorkers : ℕ → CoreState → Type 0
+HasWorkers workers s = OnBuild s.live.build (λ b. workers ≡ b.workers)
 
 -- that is its lowest range that has a page left to copy, or none has one
 abbrev pub HasOpenRange : Option ℕ → CoreState → Type 0
@@ -33,9 +33,26 @@ HasIndex index s = OnBuild s.live.build (λ b. index < length b.specs)
 abbrev pub HasLoaded : ℕ → CoreState → Type 0
 HasLoaded index s = HasIndex index s × ((index_at s.work.indexes index).loaded ≡ true)
 
--- each of the first so many indexes is there, and its pairs are in order
-abbrev pub HasAllLoaded : ℕ → CoreState → Type 0
-HasAllLoaded indexes s = (index : ℕ) → index < indexes → HasLoaded index s
+-- these events of a build's work are done
+abbrev pub DoesAll : List Event → CoreState → CoreState → Type 0
+DoesAll events old new = (works : WorksOn old new) × (works.events ≡ events)
+
+-- a page of the range is copied for the worker, unless this has as many copies as it may
+abbrev pub ScansIfRoom : ℕ → ℕ → CoreState → CoreState → Type 0
+ScansIfRoom range worker old new =
+    DoesAll (Scan range worker ∷ []) old new ⊎ ((refusal old (Scan range worker) ≡ Some RingFull) × (new ≡ old))
+
+-- and then the worker makes the pairs of one copy
+abbrev pub DoesCopy : ℕ → ℕ → CoreState → CoreState → Type 0
+DoesCopy range worker old new = (works : WorksOn old new) × IsCopy range worker old works.events
+
+-- that is the lowest worker that has not closed its runs, so that the pairs of the index can't be put in order yet
+abbrev pub IsUnsealed : ℕ → ℕ → CoreState → Type 0
+IsUnsealed index worker s = refusal s (Load index) ≡ Some (NotSealed worker)
+
+-- the pairs of the index are put in order, or that worker closes its runs
+abbrev pub PutsInOrder : ℕ → CoreState → CoreState → Type 0
+PutsInOrder index old new = (works : WorksOn old new) × IsOrdering index old works.events
 
 -- it has that range, and a page of it is left to copy
 abbrev pub HasPageIn : ℕ → CoreState → Type 0
@@ -79,8 +96,16 @@ IsPutOff Fence fault = ⊥
 IsPutOff Switch fault = ⊥
 IsPutOff Abandon fault = ⊥
 
--- an event is refused: it is put off, or the build was spoiled for that, or a page or memory is wanted
+-- an event is refused: it is put off, or a page or memory is wanted, now or when the build was spoiled
 pub record IsHeldUp (s : CoreState) (event : Event) (fault : Fault) (new : CoreState) : Type 0 where
   pub refused : Step s event (Refused fault) new
   pub full : HasPageCause WantedLeasedPage s event (Refused fault)
-  pub why : IsPutOff event fault ⊎ IsStuck s fault
+  pub why : IsPutOff event fault ⊎ IsWorkWant fault
+
+-- the copy of a page isn't done to its end
+abbrev pub StopsCopy : ℕ → ℕ → CoreState → Fault → CoreState → Type 0
+StopsCopy range worker old fault new = (due : List Event) × IsCopy range worker old due × StopsWork due old fault new
+
+-- nor is it done to put the index in order
+abbrev pub StopsOrdering : ℕ → CoreState → Fault → CoreState → Type 0
+StopsOrdering index old fault new = (due : List Event) × IsOrdering index old due × StopsWork due old fault new

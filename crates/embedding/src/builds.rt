@@ -6,11 +6,12 @@ ghost use Rattle.embedding.specs.Decisions.{Decides, FailsToDecide};
 ghost use Rattle.embedding.specs.Starts.{RefusesStart, start_limits_refusal};
 
 use crate::Kept;
+use crate::counted::Counted;
 use crate::decided::Decided;
 use crate::kept::taken;
+use crate::shut_counted::ShutCounted;
 use builder_core::{Event, INDEXES_MAX, Plan, Reply, Table, WORKERS_MAX};
 use keybytes::{Fault, KeySpec, copied_specs};
-use leased_core::{LeasedCore, ShutLeased};
 use spool_choice::SpoolChoice;
 use std::marker::Brand;
 
@@ -30,7 +31,6 @@ impl Kept {
     {
         let (table, started) = started::<Brand>(taken(&mut self.table), choice, quota, plan);
         self.table = Some(table);
-        self.pages = self.pages.at_start(&started);
         started
     }
 
@@ -60,11 +60,11 @@ impl Kept {
 
 /// The table under a name, for a start.
 fn started<T: Table>(
-    table: ShutLeased,
+    table: ShutCounted,
     choice: SpoolChoice,
     quota: usize,
     plan: Plan,
-) -> (ShutLeased, Result<u32, Fault>)
+) -> (ShutCounted, Result<u32, Fault>)
     requires pages { table.pages ≡ T.pages }
     requires sides { table.sides ≡ T.sides }
     ensures started { IfOk result.1 (λ pages. StartsOver quota plan table.core (Reply.Started pages) result.0.core) }
@@ -79,30 +79,30 @@ fn started<T: Table>(
 
 /// Starts a build, unless one runs or there would be too many spools, or pages for one of them.
 fn start_in_limits<T: Table>(
-    leased: &mut LeasedCore<T>,
+    counted: &mut Counted<T>,
     choice: SpoolChoice,
     quota: usize,
     plan: Plan,
 ) -> Result<u32, Fault>
-    ensures started { IfOk result (λ pages. StartsOver quota plan leased.old (Reply.Started pages) leased.new) }
-    ensures accepted { OnOk result (start_limits_refusal quota plan leased.old ≡ None) }
-    ensures refused { IfErr result (RefusesStart quota plan leased.old) }
-    ensures unchanged { OnErr result (leased.new ≡ leased.old) }
+    ensures started { IfOk result (λ pages. StartsOver quota plan counted.old (Reply.Started pages) counted.new) }
+    ensures accepted { OnOk result (start_limits_refusal quota plan counted.old ≡ None) }
+    ensures refused { IfErr result (RefusesStart quota plan counted.old) }
+    ensures unchanged { OnErr result (counted.new ≡ counted.old) }
 {
-    if leased.core().is_building() {
+    if counted.core().is_building() {
         return Err(Fault::BuildRunning);
     }
     if plan.workers > WORKERS_MAX || plan.specs.len() > INDEXES_MAX || quota > QUOTA_MAX {
         return Err(Fault::BadCount);
     }
-    leased.start(choice, quota, plan)
+    counted.start(choice, quota, plan)
 }
 
 /// The table under a name, for a switch.
 fn switched<T: Table>(
-    table: ShutLeased,
+    table: ShutCounted,
     decided: &mut Option<Decided>,
-) -> (ShutLeased, Result<usize, Fault>)
+) -> (ShutCounted, Result<usize, Fault>)
     requires pages { table.pages ≡ T.pages }
     requires sides { table.sides ≡ T.sides }
     ensures decided { IfOk result.1 (λ number. IsSomeAnd decided.new (λ told. Decides table.core number told result.0.core)) }
@@ -116,26 +116,26 @@ fn switched<T: Table>(
 
 /// Tries the switch, and notes what it decides. What makes the keys of the build's indexes is copied before.
 pub(crate) fn decide<T: Table>(
-    leased: &mut LeasedCore<T>,
+    counted: &mut Counted<T>,
     decided: &mut Option<Decided>,
 ) -> Result<usize, Fault>
-    ensures decided { IfOk result (λ number. IsSomeAnd decided.new (λ told. Decides leased.old number told leased.new)) }
-    ensures refused { IfErr result (λ fault. FailsToDecide leased.old fault leased.new) }
+    ensures decided { IfOk result (λ number. IsSomeAnd decided.new (λ told. Decides counted.old number told counted.new)) }
+    ensures refused { IfErr result (λ fault. FailsToDecide counted.old fault counted.new) }
     ensures kept { OnErr result (decided.new ≡ decided.old) }
 {
-    let specs = build_specs(leased)?;
-    let (number, verdicts, _missing) = leased.switch()?;
+    let specs = build_specs(counted)?;
+    let (number, verdicts) = counted.switch()?;
     *decided = Some(Decided::new(specs, verdicts));
     Ok(number)
 }
 
 /// Copies of what makes the keys of the indexes that are being built.
-fn build_specs<T: Table>(leased: &LeasedCore<T>) -> Result<Vec<KeySpec>, Fault>
-    ensures ok { IfOk result (λ specs. IfSome leased.now.live.build (λ b. specs.items ≡ b.specs)) }
+fn build_specs<T: Table>(counted: &Counted<T>) -> Result<Vec<KeySpec>, Fault>
+    ensures ok { IfOk result (λ specs. IfSome counted.now.live.build (λ b. specs.items ≡ b.specs)) }
     ensures memory { IfErr result (λ fault. fault ≡ Fault.Memory) }
-    ensures building { OnErr result (is_some leased.now.live.build ≡ true) }
+    ensures building { OnErr result (is_some counted.now.live.build ≡ true) }
 {
-    let live = leased.core().live();
+    let live = counted.core().live();
     match live.specs() {
         Some(specs) => copied_specs(live.allocator(), specs),
         None => Ok(Vec::new(live.allocator())),
@@ -143,15 +143,13 @@ fn build_specs<T: Table>(leased: &LeasedCore<T>) -> Result<Vec<KeySpec>, Fault>
 }
 
 /// The table under a name, for an abandon.
-fn abandoned<T: Table>(table: ShutLeased) -> (ShutLeased, Result<(), Fault>)
+fn abandoned<T: Table>(table: ShutCounted) -> (ShutCounted, Result<(), Fault>)
     requires pages { table.pages ≡ T.pages }
     requires sides { table.sides ≡ T.sides }
     ensures abandoned { OnOk result.1 (EndsBuild Event.Abandon Reply.Abandoned table.core result.0.core) }
     ensures refused { IfErr result.1 (λ fault. Step table.core Event.Abandon (Reply.Refused fault) result.0.core) }
 {
     let mut named = table.open::<T>();
-    match named.abandon() {
-        Ok(_missing) => (named.shut(), Ok(())),
-        Err(fault) => (named.shut(), Err(fault)),
-    }
+    let abandoned = named.abandon();
+    (named.shut(), abandoned)
 }

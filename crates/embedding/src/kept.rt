@@ -3,12 +3,12 @@ ghost use Rattle.build_events.specs.Steps.{HasPageCause, Step};
 ghost use Rattle.leased_core.specs.Leasing.{KeepsBuild, WantedLeasedPage};
 ghost use Rattle.embedding.specs.KeptTables.{new_table};
 
+use crate::counted::Counted;
 use crate::decided::Decided;
-use crate::progress::PageCount;
+use crate::shut_counted::ShutCounted;
 use builder_core::{Event, Parts, Reply, Table};
 use heap_table::Heap;
 use keybytes::Fault;
-use leased_core::{LeasedCore, ShutLeased};
 use std::alloc::Global;
 use std::marker::{Brand, Model};
 
@@ -17,9 +17,8 @@ use std::marker::{Brand, Model};
 /// To let it go lets the table go, and with it the pool and the spools of a build that runs: [`Kept::close`] counts their pages.
 pub struct Kept {
     /// It is there but for the time that a call works on it.
-    pub(crate) table: Option<ShutLeased>,
+    pub(crate) table: Option<ShutCounted>,
     pub(crate) decided: Option<Decided>,
-    pub(crate) pages: PageCount,
 }
 
 impl Drop for Kept {
@@ -27,7 +26,6 @@ impl Drop for Kept {
         let Kept {
             table: _,
             decided: _,
-            pages: _,
         } = self;
     }
 }
@@ -54,7 +52,6 @@ impl Kept {
             Ok(parts) => Ok(Kept {
                 table: Some(opened::<Brand>(alloc, parts)),
                 decided: None,
-                pages: PageCount { all: 0, copied: 0 },
             }),
             Err(back) => Err(back),
         }
@@ -64,11 +61,7 @@ impl Kept {
     pub fn close(self) -> usize
         ensures { result ≡ 0 }
     {
-        let Kept {
-            table,
-            decided: _,
-            pages: _,
-        } = self;
+        let Kept { table, decided: _ } = self;
         match table {
             Some(table) => closed::<Brand>(table),
             None => 0,
@@ -84,13 +77,12 @@ impl Kept {
     {
         let (table, reply) = stepped::<Brand>(taken(&mut self.table), event);
         self.table = Some(table);
-        self.pages = self.pages.after(&reply);
         reply
     }
 }
 
 /// Takes the table out of its place, for a call to work on.
-pub(crate) fn taken(table: &mut Option<ShutLeased>) -> ShutLeased
+pub(crate) fn taken(table: &mut Option<ShutCounted>) -> ShutCounted
     requires { is_some table.old ≡ true }
     ensures { table.old ≡ Some result }
 {
@@ -101,17 +93,16 @@ pub(crate) fn taken(table: &mut Option<ShutLeased>) -> ShutLeased
 }
 
 /// The table under a name, for as long as it takes to make it.
-fn opened<T: Table>(alloc: Global, parts: Parts) -> ShutLeased
+fn opened<T: Table>(alloc: Global, parts: Parts) -> ShutCounted
     requires pages { parts.pages ≡ T.pages }
     requires sides { parts.sides ≡ T.sides }
     ensures { result.core ≡ new_table parts.heap }
 {
-    let (live, ends) = parts.open::<T>();
-    LeasedCore::new(alloc, live, ends).shut()
+    Counted::<T>::new(alloc, parts).shut()
 }
 
 /// The table under a name, to be closed.
-fn closed<T: Table>(table: ShutLeased) -> usize
+fn closed<T: Table>(table: ShutCounted) -> usize
     requires pages { table.pages ≡ T.pages }
     requires sides { table.sides ≡ T.sides }
     ensures { result ≡ 0 }
@@ -120,7 +111,7 @@ fn closed<T: Table>(table: ShutLeased) -> usize
 }
 
 /// The table under a name, for one event.
-fn stepped<T: Table>(table: ShutLeased, event: Event) -> (ShutLeased, Reply)
+fn stepped<T: Table>(table: ShutCounted, event: Event) -> (ShutCounted, Reply)
     requires pages { table.pages ≡ T.pages }
     requires sides { table.sides ≡ T.sides }
     requires keeps { KeepsBuild event }

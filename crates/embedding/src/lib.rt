@@ -8,11 +8,14 @@
 
 mod advancing;
 mod builds;
+mod counted;
 mod decided;
 mod kept;
 mod lookups;
+mod page_count;
 mod progress;
 mod reads;
+mod shut_counted;
 
 pub use kept::Kept;
 pub use progress::Progress;

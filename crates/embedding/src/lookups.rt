@@ -10,10 +10,10 @@ ghost use Rattle.embedding.specs.Lookups.{first_columns, keyed_by, spec_refusal}
 
 use crate::Kept;
 use crate::kept::taken;
+use crate::shut_counted::ShutCounted;
 use btree::Tree;
 use builder_core::{Core, Pair, Table};
 use keybytes::{Fault, Key, KeyCol, KeySpec, Rid, Row, Schema};
-use leased_core::ShutLeased;
 use spool_kinds::SpoolOfKind;
 use std::alloc::Global;
 use std::marker::Brand;
@@ -64,7 +64,7 @@ impl Kept {
 }
 
 /// The table under a name, for the number of its ready indexes.
-fn ready_of<T: Table>(table: ShutLeased) -> (ShutLeased, usize)
+fn ready_of<T: Table>(table: ShutCounted) -> (ShutCounted, usize)
     requires pages { table.pages ≡ T.pages }
     requires sides { table.sides ≡ T.sides }
     ensures ready { result.1 ≡ length table.core.live.ready }
@@ -77,11 +77,11 @@ fn ready_of<T: Table>(table: ShutLeased) -> (ShutLeased, usize)
 
 /// The table under a name, for a key.
 fn key_by<T: Table>(
-    table: ShutLeased,
+    table: ShutCounted,
     number: usize,
     columns: usize,
     row: &Row,
-) -> (ShutLeased, Result<Key, Fault>)
+) -> (ShutCounted, Result<Key, Fault>)
     requires pages { table.pages ≡ T.pages }
     requires sides { table.sides ≡ T.sides }
     ensures ok { IfOk result.1 (IsFirstKey table.core.live.heap.schema columns (slice_get table.core.live.ready number) row.now) }
@@ -184,12 +184,12 @@ fn key_by_columns(
 
 /// The table under a name, for a pair.
 fn next_of<T: Table>(
-    table: ShutLeased,
+    table: ShutCounted,
     number: usize,
     key: &Key,
     rid: Rid,
     past: bool,
-) -> (ShutLeased, Result<Option<(Key, Rid)>, Fault>)
+) -> (ShutCounted, Result<Option<(Key, Rid)>, Fault>)
     requires pages { table.pages ≡ T.pages }
     requires sides { table.sides ≡ T.sides }
     ensures ok { IfOk result.1 (λ found.

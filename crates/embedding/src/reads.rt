@@ -11,9 +11,9 @@ ghost use Rattle.build_events.specs.CoreState.{with_heap};
 
 use crate::Kept;
 use crate::kept::taken;
+use crate::shut_counted::ShutCounted;
 use builder_core::Table;
 use keybytes::{Fault, Rid, Row, Schema};
-use leased_core::ShutLeased;
 use std::marker::Brand;
 
 impl Kept {
@@ -65,7 +65,7 @@ impl Kept {
 }
 
 /// The table under a name, for a row.
-fn row_at<T: Table>(table: ShutLeased, rid: Rid) -> (ShutLeased, Result<Row, Fault>)
+fn row_at<T: Table>(table: ShutCounted, rid: Rid) -> (ShutCounted, Result<Row, Fault>)
     requires pages { table.pages ≡ T.pages }
     requires sides { table.sides ≡ T.sides }
     ensures ok { IfOk result.1 (λ row. live_at table.core.live.heap.log rid ≡ Some row) }
@@ -82,7 +82,7 @@ fn row_at<T: Table>(table: ShutLeased, rid: Rid) -> (ShutLeased, Result<Row, Fau
 }
 
 /// The table under a name, for its columns.
-fn schema_of<T: Table>(table: ShutLeased) -> (ShutLeased, Schema)
+fn schema_of<T: Table>(table: ShutCounted) -> (ShutCounted, Schema)
     requires pages { table.pages ≡ T.pages }
     requires sides { table.sides ≡ T.sides }
     ensures schema { result.1 ≡ table.core.live.heap.schema }
@@ -94,7 +94,7 @@ fn schema_of<T: Table>(table: ShutLeased) -> (ShutLeased, Schema)
 }
 
 /// The table under a name, for the number of its pages.
-fn pages_of<T: Table>(table: ShutLeased) -> (ShutLeased, u32)
+fn pages_of<T: Table>(table: ShutCounted) -> (ShutCounted, u32)
     requires pages { table.pages ≡ T.pages }
     requires sides { table.sides ≡ T.sides }
     ensures pages { result.1 ≡ pages_written table.core.live.heap.log }
@@ -106,7 +106,7 @@ fn pages_of<T: Table>(table: ShutLeased) -> (ShutLeased, u32)
 }
 
 /// The table under a name, for the row that bytes spell.
-fn row_of<T: Table>(table: ShutLeased, bytes: &[u8]) -> (ShutLeased, Result<Row, Fault>)
+fn row_of<T: Table>(table: ShutCounted, bytes: &[u8]) -> (ShutCounted, Result<Row, Fault>)
     requires pages { table.pages ≡ T.pages }
     requires sides { table.sides ≡ T.sides }
     ensures ok { IfOk result.1 (λ row. Spells table.core.live.heap.schema bytes.now row) }

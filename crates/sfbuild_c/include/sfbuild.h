@@ -8,9 +8,9 @@
  *
  * Proved, for whatever list of calls: no call reads or writes beyond what is described here, each call returns and does
  * and answers what its definition says, and an index that becomes ready has one pair, key and address, of each row that
- * stands, and no other. Only tested is which piece of a build sfbuild_step does and how much of it, that it tells each
- * BUSY and MEMORY and so comes to its end, the pages that sfbuild_progress tells, and that sfbuild_close frees all.
- * (docs/C.md, docs/PROMISES.md.) What the program has to keep, since nothing can check it:
+ * stands, and no other. Only tested is that the pieces of sfbuild_step bring a build to its end where writers pause,
+ * that MEMORY isn't answered where there is memory, and that sfbuild_close frees all. (docs/C.md, docs/PROMISES.md.)
+ * What the program has to keep, since nothing can check it:
  *
  * - Pointers aren't null, point to what they are said to, and not into one another. Lengths are true. A pointer to
  *   no bytes isn't null either, except where a helper says that it may be.

@@ -8,7 +8,7 @@ use Rattle.build_events.specs.declared.reply.Reply.TheVariants.{Refused}
 use Rattle.build_events.specs.CoreState.{CoreState}
 use Rattle.embedding.specs.Decisions.{Decides}
 use Rattle.embedding.specs.KeptTables.{DecidedValue, KeptValue}
-use Rattle.embedding.specs.Pieces.{HasWorked, WorksToTheEnd}
+use Rattle.embedding.specs.Pieces.{DoesPiece, WorksToTheEnd}
 use Rattle.sfbuild_c.specs.Building.{Advances}
 use Rattle.sfbuild_c.specs.Answers.{Answered, KeepsCause, OnTable, Steps}
 use Rattle.sfbuild_c.specs.Causes.{cause_of}
@@ -38,7 +38,8 @@ some_decides (Some decided) number old new decides = (number, decides)
 
 -- a piece of a build is the last, or one before it
 pub advances :
-    (switched : Bool) (before after : KeptValue) → (switched ≡ true → IsSomeAnd after.decided (λ decided. WorksToTheEnd before.core decided after.core))
-    → (switched ≡ false → HasWorked before.core after.core × (after.decided ≡ before.decided)) → Advances switched before after
-advances true before after ends goes_on = ends refl
-advances false before after ends goes_on = goes_on refl
+    (most : ℕ) (switched : Bool) (before after : KeptValue)
+    → (switched ≡ true → IsSomeAnd after.decided (λ decided. WorksToTheEnd most before.core decided after.core))
+    → (switched ≡ false → DoesPiece most before.core after.core × (after.decided ≡ before.decided)) → Advances most switched before after
+advances most true before after ends goes_on = ends refl
+advances most false before after ends goes_on = goes_on refl

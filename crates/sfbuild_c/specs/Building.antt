@@ -11,7 +11,7 @@ use Rattle.build_events.specs.declared.reply.Reply.TheVariants.{Abandoned, Refus
 use Rattle.leased_core.specs.Leasing.{EndsBuild, StartsOver}
 use Rattle.embedding.specs.Decisions.{Decides, FailsToDecide, verdicts_in}
 use Rattle.embedding.specs.KeptTables.{KeptValue}
-use Rattle.embedding.specs.Pieces.{FailsToAdvance, HasWorked, WorksToTheEnd}
+use Rattle.embedding.specs.Pieces.{DoesPiece, FailsToAdvance, WorksToTheEnd}
 use Rattle.embedding.specs.Starts.{RefusesStart, start_limits_refusal}
 use Rattle.sfbuild_c.specs.IndexBytes.{RefusesIndexes, SpellsIndexes}
 
@@ -37,14 +37,14 @@ RefusesBuild bytes workers ranges quota fault before after =
     × (RefusesIndexes before.core.live.heap.schema bytes fault
     ⊎ ((plan : Plan) × IsAskedFor before.core.live.heap.schema bytes workers ranges plan × RefusesStart quota plan before.core fault))))
 
--- a piece of a build: the last, which is the switch, or one before it
-abbrev pub Advances : Bool → KeptValue → KeptValue → Type 0
-Advances true before after = IsSomeAnd after.decided (λ decided. WorksToTheEnd before.core decided after.core)
-Advances false before after = HasWorked before.core after.core × (after.decided ≡ before.decided)
+-- a piece of a build, of at most so many entries of each index: the last, which is the switch, or one before it
+abbrev pub Advances : ℕ → Bool → KeptValue → KeptValue → Type 0
+Advances most true before after = IsSomeAnd after.decided (λ decided. WorksToTheEnd most before.core decided after.core)
+Advances most false before after = DoesPiece most before.core after.core × (after.decided ≡ before.decided)
 
--- a piece of a build ends with a fault
-abbrev pub FailsToGoOn : Fault → KeptValue → KeptValue → Type 0
-FailsToGoOn fault before after = FailsToAdvance before.core fault after.core × (after.decided ≡ before.decided)
+-- such a piece ends with a fault
+abbrev pub FailsToGoOn : ℕ → Fault → KeptValue → KeptValue → Type 0
+FailsToGoOn most fault before after = FailsToAdvance most before.core fault after.core × (after.decided ≡ before.decided)
 
 -- a switch decides, of so many indexes
 abbrev pub SwitchesTo : ℕ → KeptValue → KeptValue → Type 0

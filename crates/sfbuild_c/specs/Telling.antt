@@ -9,7 +9,7 @@ use Rattle.heap_log.specs.declared.outcome.Outcome.{Outcome}
 use Rattle.heap_log.specs.declared.outcome.Outcome.TheVariants.{Ready, Shared}
 use Rattle.embedding.specs.Decisions.{AreSharedCells, IsNotShared, specs_in, verdicts_in}
 use Rattle.embedding.specs.KeptTables.{KeptValue}
-use Rattle.embedding.specs.Progresses.{all_unfed, index_count}
+use Rattle.embedding.specs.Progresses.{all_unfed, index_count, pages_copied, pages_read}
 use Rattle.sfbuild_c.specs.Buffers.{HandsOut}
 use Rattle.sfbuild_c.specs.Places.{no_place, place_of}
 use Rattle.sfbuild_c.specs.declared.progress.ProgressOf.{ProgressOf}
@@ -19,6 +19,8 @@ use Rattle.sfbuild_c.specs.declared.verdict.VerdictOf.{VerdictOf}
 pub record IsSoFar (told : ProgressOf) (before after : KeptValue) : Type 0 where
   pub unchanged : after ≡ before
   pub running : told.running ≡ is_some before.core.live.build
+  pub pages : told.pages ≡ pages_read before.core.live.build
+  pub scanned : told.scanned ≡ pages_copied before.core.live.build
   pub indexes : told.indexes ≡ index_count before.core.live.build
   pub loaded : told.loaded ≡ count_by (λ index. index.loaded) before.core.work.indexes
   pub waiting : told.waiting ≡ min (all_unfed before.core.live) 18446744073709551615

@@ -225,7 +225,7 @@ pub extern "C" fn sfbuild_step(
     most: usize,
     ready: &mut bool,
 ) -> u8
-    ensures told { Answers (Advances ready.new) FailsToGoOn result session.old session.new }
+    ensures told { Answers (Advances most ready.new) (FailsToGoOn most) result session.old session.new }
     ensures kept { UnlessDone result (ready.new ≡ ready.old) }
 {
     let Some(mut table) = session.take(alloc) else {

@@ -1,12 +1,36 @@
-use Rattle.std.proofs.Common.{subst}
+use Rattle.std.proofs.Common.{ℕ, subst}
 use Rattle.keybytes.specs.declared.fault.Fault.{Fault}
 use Rattle.embedding.specs.Decisions.{FailsToDecide}
-use Rattle.embedding.proofs.Pieces.{worked_behind}
+use Rattle.embedding.specs.Pieces.{turns}
+use Rattle.embedding.specs.Progresses.{index_count}
+use Rattle.embedding.specs.Shapes.{DoesAll}
+use Rattle.embedding.proofs.Deciding.{ends_work, piece_behind, works_in_vain}
 use Rattle.embedding.proofs.advancing.finish.Goals as goal
 
-pub returns-in-Err-Behind-clause-goes_on : goal.returns-in-Err-Behind-clause-goes_on
-returns-in-Err-Behind-clause-goes_on g c = λ is.
-    let fails = subst (λ (f : Fault). FailsToDecide c.catch_up.new.leased f c.decide.new.leased) c.in-Err-Behind.field-0-is c.in-Err-Behind.ensures.refused in (
-      worked_behind c.args.leased.now c.catch_up.new.leased c.decide.new.leased c.in-Err-Behind._left (c.in-Ok.ensures.some c.if-worked.true) fails,
-      c.in-Err-Behind.ensures.kept,
+pub returns-in-Ok-decide-clause-ready : goal.returns-in-Ok-decide-clause-ready
+returns-in-Ok-decide-clause-ready g c = λ _.
+    let done = subst (λ (n : ℕ). DoesAll (turns n (index_count c.args.counted.now.live.build)) c.args.counted.now c.catch_up.new.counted) c.clamp.ensures
+    c.in-Ok.ensures.done in
+    ends_work c.args.most c.args.counted.now c.catch_up.new.counted c.decide.new.counted c.in-Ok-decide._number c.decide.new.decided done
+    c.in-Ok-decide.ensures.decided
+
+pub returns-in-Behind-clause-goes_on : goal.returns-in-Behind-clause-goes_on
+returns-in-Behind-clause-goes_on g c = λ _.
+    let done = subst (λ (n : ℕ). DoesAll (turns n (index_count c.args.counted.now.live.build)) c.args.counted.now c.catch_up.new.counted) c.clamp.ensures
+    c.in-Ok.ensures.done in
+    let fails = subst (λ (f : Fault). FailsToDecide c.catch_up.new.counted f c.decide.new.counted) c.in-Behind.is c.in-Err-decide.ensures.refused in (
+      piece_behind c.args.most c.in-Behind._left c.args.counted.now c.catch_up.new.counted c.decide.new.counted c.requires c.laws.ensures done fails,
+      c.in-Err-decide.ensures.kept,
     )
+
+pub returns-in_default : goal.returns-in_default
+returns-in_default g c =
+    let done = subst (λ (n : ℕ). DoesAll (turns n (index_count c.args.counted.now.live.build)) c.args.counted.now c.catch_up.new.counted) c.clamp.ensures
+    c.in-Ok.ensures.done in
+    record {
+      ready = tt;
+      goes_on = tt;
+      refused = works_in_vain c.args.most c.args.counted.now c.catch_up.new.counted c.decide.new.counted c.in-Err-decide.fault done c.in-Ok.ensures.prepared
+          c.laws-2.ensures (λ left is. c.in_default.not-Behind left is) c.in-Err-decide.ensures.refused;
+      kept = c.in-Err-decide.ensures.kept;
+    }
