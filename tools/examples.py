@@ -16,7 +16,7 @@ SCRIPTS = {
 }
 # Callers of the library for C programs, which tools/callers and tools/sqlite-example try: the files of each folder.
 CALLERS = {
-    "c": ["caller.c", "caller.out", "first.c", "first.out", "steady.c", "steady.out"],
+    "c": ["caller.c", "caller.out", "events.c", "events.out", "first.c", "first.out", "steady.c", "steady.out"],
     "rust": ["caller.out", "caller.rs"],
     "sqlite": ["README.md", "building.c", "example.out", "example.sql", "functions.c", "reading.c", "sfbuild.c", "table.h", "tables.c", "transaction.c", "writing.c"],
 }

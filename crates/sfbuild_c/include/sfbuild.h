@@ -9,7 +9,8 @@
  * Proved, for whatever list of calls: no call reads or writes beyond what is described here, each call returns and does
  * and answers what its definition says, and an index that becomes ready has one pair, key and address, of each row that
  * stands, and no other. Only tested is that the pieces of sfbuild_step bring a build to its end where writers pause,
- * that MEMORY isn't answered where there is memory, and that sfbuild_close frees all. (docs/C.md, docs/PROMISES.md.)
+ * that MEMORY isn't answered where there is memory, and that sfbuild_close frees all. Not proved is what stands in C:
+ * the helpers in this file, and that its declarations fit the library. (docs/C.md, docs/PROMISES.md.)
  * What the program has to keep, since nothing can check it:
  *
  * - Pointers aren't null, point to what they are said to, and not into one another. Lengths are true. A pointer to
@@ -188,8 +189,8 @@ uint8_t sfbuild_digest(sfbuild *table, size_t worker, size_t *images);
  * index. NO_BUILD; BAD_COUNT; NO_PAGE. */
 uint8_t sfbuild_seal(sfbuild *table, size_t worker, size_t *images);
 
-/* Puts the pairs of an index of the build in order, and tells how many there are. NO_BUILD; BAD_COUNT; NOT_SCANNED;
- * NOT_SEALED. */
+/* Puts the pairs of an index of the build in order, and tells how many there are, or 0 where they were in order
+ * already. NO_BUILD; BAD_COUNT; NOT_SCANNED; NOT_SEALED. */
 uint8_t sfbuild_load(sfbuild *table, size_t index, size_t *pairs);
 
 /* Moves changes of the index, at most `most`, into its ring, which has room for 256, and tells how many. NO_BUILD;
