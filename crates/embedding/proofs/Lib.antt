@@ -1,4 +1,5 @@
 mod Counts
+pub mod Crosses
 mod Deciding
 mod DuePieces
 mod FirstColumns

@@ -20,11 +20,11 @@ use std::marker::Brand;
 const RING_ENTRIES: usize = 256;
 
 impl Kept {
-    /// Does the next piece of the build that runs, and answers whether its indexes were brought into use by it: copies a page and makes the pairs of one
+    /// Does the next piece of the build that runs, and answers whether it was the last, a switch that decided: copies a page and makes the pairs of one
     /// copy, or lets a worker close its runs, or puts the pairs of an index in order, or applies at most so many entries of each index, from 1 to 256, and
-    /// tries the switch, which keeps what it decides. [`Fault::NoBuild`] where none runs. After [`Fault::Busy`] it can be called again, and after
-    /// [`Fault::Memory`] of a copy, of entries or of the switch; after the fault of a spoiled build, and after [`Fault::NoPage`] and [`Fault::Memory`]
-    /// where these spoil it, the build can only be given up.
+    /// tries the switch, which keeps what it decides of each index. [`Fault::NoBuild`] where none runs. After [`Fault::Busy`] it can be called again, and
+    /// after [`Fault::Memory`] of a copy, of entries or of the switch; after the fault of a spoiled build, and after [`Fault::NoPage`] and
+    /// [`Fault::Memory`] where these spoil it, the build can only be given up.
     pub fn advance(&mut self, most: usize) -> Result<bool, Fault>
         ensures ready { IfOk result (λ ready. ready ≡ true
             → IsSomeAnd self.new.decided (λ decided. WorksToTheEnd most self.old.core decided self.new.core)) }

@@ -8,10 +8,10 @@
  *
  * Proved, for whatever list of calls: no call reads or writes beyond what is described here, each call returns and does
  * and answers what its definition says, and an index that becomes ready has one pair, key and address, of each row that
- * stands, and no other. Only tested is that the pieces of sfbuild_step bring a build to its end where writers pause,
- * that MEMORY isn't answered where there is memory, that sfbuild_close frees all, and that a table may go from one
- * thread to another between two calls. Not proved is what stands in C: the helpers in this file, and that its
- * declarations fit the library. (docs/C.md, docs/PROMISES.md.)
+ * stands, and no other; and a table may go from one thread to another between two calls. Only tested is that the pieces
+ * of sfbuild_step bring a build to its end where writers pause, that MEMORY isn't answered where there is memory, and
+ * that sfbuild_close frees all. Not proved is what stands in C: the helpers in this file, and that its declarations fit
+ * the library. (docs/C.md, docs/PROMISES.md.)
  * What the program has to keep, since nothing can check it:
  *
  * - Pointers aren't null, point to what they are said to, and not into one another. Lengths are true. A pointer to

@@ -2,6 +2,7 @@ mod Answering
 pub mod Apart
 mod CellKinds
 mod ColumnLists
+mod Crosses
 mod IndexLists
 mod KindLists
 mod PairCauses

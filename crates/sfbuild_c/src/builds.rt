@@ -217,7 +217,7 @@ fn start(
     table.start(SpoolChoice::Prefix, quota, plan)
 }
 
-/// Does the next piece of the build, and tells whether its indexes were brought into use by it.
+/// Does the next piece of the build, and tells whether it was the last, a switch that decided of each index.
 #[unsafe(no_mangle)]
 pub extern "C" fn sfbuild_step(
     alloc: Global,

@@ -54,3 +54,6 @@ impl Held {
         }
     }
 }
+
+// Its table may go to another thread, and any thread may give the memory back.
+unsafe impl Send for Held {}
