@@ -47,7 +47,7 @@ fn done<T>(told: u8, value: T) -> Done<T> {
 /// An open table.
 pub struct Table(Raw);
 
-// It is used by one call at a time, whatever thread makes it.
+// Nothing that a table owns belongs to a thread, which is proved of the library; and each call takes it by `&mut`, so that calls don't meet.
 unsafe impl Send for Table {}
 
 impl Drop for Table {
