@@ -22,8 +22,6 @@ use Rattle.leased_core.proofs.leases.Leases.TheSendSync as leases
 use Rattle.embedding.proofs.decided.Decided.TheSendSync as decided
 use Rattle.building.specs.contracts.intake.Intake as Intake
 use Rattle.building.specs.contracts.worker.Worker as Worker
-use Rattle.unique_verdict.specs.contracts.tally.Tally as Tally
-use Rattle.catch_up.specs.contracts.built.Built as Built
 use Rattle.build_work.specs.contracts.work.Work as Work
 use Rattle.build_work.specs.contracts.shut_building.ShutBuilding as ShutBuilding
 use Rattle.build_work.specs.contracts.shut_building.ShutBuilding.TheInside as Ends
@@ -39,25 +37,16 @@ live_send : IsSend ShutLive.the_row
 live_send = search (heap.the_send, ready_send, scan.the_send, putter.the_send, side.the_send, sendable, crosses) depth 20
 
 -- what a build has made of its indexes
-tally_send : IsSend Tally.the_row
-tally_send = search (tree_send, sendable, crosses) depth 20
-
-built_send : IsSend Built.the_row
-built_send = search (tree_send, tally_send, sendable, crosses) depth 20
-
 work_send : IsSend Work.the_row
-work_send = search (spec.the_send, fault.the_send, built_send, sendable, crosses) depth 20
+work_send = search (spec.the_send, fault.the_send, tree_send, sendable, crosses) depth 60
 
 -- its workers, the ends of its rings and its spools, where a spool may go to another thread
-worker_send : (S : RattleType) (g : spool.Ghosts S.Denot) → IsSend S → IsSend (Worker.the_row S g)
-worker_send S g s = search (worker.the_send, s, sendable, crosses) depth 20
-
 building_send : (S : RattleType) (g : spool.Ghosts S.Denot) → IsSend S → IsSend (ShutBuilding.the_row S g)
 building_send S g s =
     view_send (Ends.the_row S g) _ _ _ _
     (recorded_send (Ends.the_field S g).row _ _ (Ends.the_type S g).to_one
     (struct_send (shape (Ends.the_type S g)) (
-      Vec-send (Worker.the_row S g) (worker_send S g s),
+      Vec-send (Worker.the_row S g) (search (worker.the_send, s, sendable, crosses) depth 20),
       (
         Vec-send Intake.the_row intake.the_send,
         (
@@ -67,7 +56,7 @@ building_send S g s =
       ),
     )))
 
--- the core of both
+-- the core, of the table and its build
 core_send : (S : RattleType) (g : spool.Ghosts S.Denot) → IsSend S → IsSend (Shut.the_row S g)
 core_send S g s =
     view_send (Halves.the_row S g) _ _ _ _
