@@ -7,10 +7,9 @@ use crate::column::Column;
 use crate::options::Options;
 use crate::spool_pages::quota;
 use builder_core::{Dealing, INDEXES_MAX, Parts, Plan, WORKERS_MAX};
-use counted_spool::CountedSpool;
 use heap_table::{Heap, PAGES_MAX, SLOTS_MAX};
 use keybytes::{Fault, KeyCol, KeySpec, Kind, Schema};
-use spool_kinds::{SpoolOfKind, spools_over};
+use spool_kinds::{CountedSpool, SpoolOfKind, spools_over};
 use spool_ledger::Pool;
 use std::alloc::{AllocError, Global};
 

@@ -8,7 +8,7 @@ use builder_core::WORKERS_MAX;
 use clap::builder::ValueParser;
 use clap::error::ErrorKind;
 use clap::{Arg, ArgAction, ArgMatches, Command, Error};
-use spool_choice::SpoolChoice;
+use run_spool::SpoolChoice;
 use std::alloc::{AllocError, Global};
 use std::convert::AsStr;
 

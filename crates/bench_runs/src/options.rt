@@ -4,7 +4,7 @@ ghost use Rattle.bench_runs.specs.declared.column.Column.{Column as ColumnValue}
 
 use crate::column::Column;
 use crate::condition::Condition;
-use spool_choice::SpoolChoice;
+use run_spool::SpoolChoice;
 use std::alloc::Global;
 
 /// What is to be measured.

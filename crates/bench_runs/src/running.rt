@@ -11,9 +11,8 @@ use crate::record::{Figures, Record};
 use crate::rows::Rows;
 use crate::subject::Subject;
 use builder_core::{Core, Parts, Table};
-use counted_spool::CountedSpool;
 use heap_table::PAGES_MAX;
-use spool_kinds::SpoolOfKind;
+use spool_kinds::{CountedSpool, SpoolOfKind};
 use std::marker::Brand;
 
 /// With the indexes ready, one row of so many is inserted, and one updated.

@@ -7,11 +7,10 @@ use crate::options::Options;
 use crate::phase::Phase;
 use crate::record::Record;
 use builder_core::{Core, Event, Reply, Table};
-use counted_spool::CountedSpool;
 use heap_log::Outcome;
 use keybytes::Fault;
 use rand::rngs::SmallRng;
-use spool_kinds::SpoolOfKind;
+use spool_kinds::{CountedSpool, SpoolOfKind};
 use std::alloc::Global;
 
 /// What is measured. The phases know no more of the core than this, so that their proofs do without what it keeps.

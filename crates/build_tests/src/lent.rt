@@ -1,9 +1,9 @@
 //! Workers that are lent, as threads are: each looks into its ring and takes what it sees there, by itself.
 ghost use Rattle.std.specs.Prelude.{◌≡◌, List, true, OnOk};
 ghost use Rattle.side_file.specs.Ends.{RingId};
-ghost use Rattle.building.specs.WorkerValue.{SameWorker};
-ghost use Rattle.build_work.specs.BuildingValue.{BuildingValue};
-ghost use Rattle.build_work.specs.Lent.{AreBack, CanLend};
+ghost use Rattle.page_workers.specs.WorkerValue.{SameWorker};
+ghost use Rattle.building.specs.BuildingValue.{BuildingValue};
+ghost use Rattle.building.specs.Lent.{AreBack, CanLend};
 
 use crate::asks::{Ask, FIRST, event, number_row, spec};
 use crate::calls::first_other_in;

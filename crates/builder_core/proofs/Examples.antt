@@ -25,11 +25,11 @@ use Rattle.build_events.specs.Ranges.{next_page, open_range}
 use Rattle.scan_range.specs.Dealings.{dealt_ends, dealing_refusal}
 use Rattle.build_events.specs.BuildSteps.{spools_refusal}
 use Rattle.build_events.specs.Steps.{refusal, Does, AfterWant, IsRefused}
-use Rattle.build_work.specs.Holding.{spools_state}
+use Rattle.building.specs.Holding.{spools_state}
 use Rattle.build_events.specs.Workers.{waiting, fill_runs, unsealed_worker}
 use Rattle.build_events.specs.declared.scan.Scan.{Scan as Copied}
 use Rattle.keybytes.proofs.PairSets.{is_in, items_are}
-use Rattle.build_scan.proofs.ScanExamples.{five, on_number, pair, three}
+use Rattle.table_scan.proofs.ScanExamples.{five, on_number, pair, three}
 
 abbrev null : List ℕ
 null = 0 ∷ []

@@ -5,10 +5,10 @@ use Rattle.std.specs.List.{position}
 use Rattle.std.proofs.lemmas.List.Folds.{fold-map}
 use Rattle.build_events.specs.CoreState.{CoreState, IndexState}
 use Rattle.build_events.specs.Workers.{unloaded_index}
-use Rattle.build_work.specs.BuildingValue.{BuildingValue, IndexValue, WorkValue, index_state, work_state}
-use Rattle.build_halves.specs.Builds.{LiveValue, core_state}
-use Rattle.build_halves.proofs.FedBeside.{indexes_seen}
-use Rattle.build_halves.proofs.Unloaded.{unloaded_seen}
+use Rattle.building.specs.BuildingValue.{BuildingValue, IndexValue, WorkValue, index_state, work_state}
+use Rattle.live_lemmas.specs.Builds.{LiveValue, core_state}
+use Rattle.live_lemmas.proofs.FedBeside.{indexes_seen}
+use Rattle.live_lemmas.proofs.Unloaded.{unloaded_seen}
 
 module _ (s : CoreState) (live : LiveValue) (building : BuildingValue) (is : core_state live building ≡ s) where
   pub none_unloaded : building.work ≡ None → None ≡ unloaded_index s.work

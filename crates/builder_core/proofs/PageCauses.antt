@@ -15,8 +15,8 @@ use Rattle.heap_table.specs.HeapState.{HeapState, txn_refusal, new_row_refusal, 
 use Rattle.key_guards.specs.KeyRefusals.{key_refusal, next_key_refusal, duplicate_refusal, guarded_refusal}
 use Rattle.build_events.specs.CoreState.{CoreState, BuildState}
 use Rattle.ready_indexes.specs.Indexes.{ReadyValue}
-use Rattle.building.specs.declared.turn.Turn.TheVariants.{Digest as TurnDigest, Seal as TurnSeal}
-use Rattle.build_halves.specs.FullSpools.{IfSpooling, NoPageOnlyIfFull, WantedPage}
+use Rattle.page_workers.specs.declared.turn.Turn.TheVariants.{Digest as TurnDigest, Seal as TurnSeal}
+use Rattle.live_lemmas.specs.FullSpools.{IfSpooling, NoPageOnlyIfFull, WantedPage}
 use Rattle.ready_indexes.specs.KeyCauses.{keys_refusal}
 use Rattle.scan_range.specs.Dealings.{dealing_refusal}
 use Rattle.build_events.specs.BuildSteps.{cause_if, build_cause}

@@ -3,8 +3,8 @@ use Rattle.std.proofs.Common.{◌≡◌, None, Result, Ok, Err, inl, inr, refl, 
 use Rattle.std.specs.Prelude.{MatchResult}
 use Rattle.keybytes.specs.declared.fault.Fault.{Fault}
 use Rattle.heap_table.specs.HeapState.{HeapState}
-use Rattle.build_halves.specs.Builds.{LiveValue, core_state}
-use Rattle.build_work.specs.BuildingValue.{BuildingValue}
+use Rattle.live_lemmas.specs.Builds.{LiveValue, core_state}
+use Rattle.building.specs.BuildingValue.{BuildingValue}
 use Rattle.build_events.specs.CoreState.{CoreState}
 use Rattle.build_events.specs.Steps.{OnRows, OnLive, Tells, Answers, Does, Step, refusal}
 use Rattle.build_events.specs.declared.event.Event.{Event}

@@ -5,8 +5,8 @@ ghost use Rattle.build_events.specs.Steps.{AnswersBy};
 ghost use Rattle.build_events.specs.Verdicts.{HaveSharedKeys};
 ghost use Rattle.build_events.specs.declared.event.Event.{Event};
 ghost use Rattle.build_events.specs.declared.reply.Reply.{Reply};
-ghost use Rattle.build_halves.specs.FullSpools.{NoPageOnlyIfFull};
-ghost use Rattle.building.specs.declared.turn.Turn.{Turn};
+ghost use Rattle.live_lemmas.specs.FullSpools.{NoPageOnlyIfFull};
+ghost use Rattle.page_workers.specs.declared.turn.Turn.{Turn};
 
 use crate::{Core, Plan, Table};
 use heap_log::Verdicts;

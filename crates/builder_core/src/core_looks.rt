@@ -3,7 +3,7 @@ ghost use Rattle.std.specs.Prelude.{◌≡◌, is_some, count_by};
 ghost use Rattle.build_events.specs.Workers.{unloaded_index};
 
 use crate::{Core, Table};
-use build_work::Work;
+use building::Work;
 use run_spool::Spool;
 
 impl<S: Spool, T: Table> Core<S, T> {

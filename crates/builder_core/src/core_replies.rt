@@ -1,8 +1,8 @@
 //! The calls of a core, answered by replies.
 ghost use Rattle.std.specs.Prelude.{IfErr};
 ghost use Rattle.build_events.specs.Steps.{Answers};
-ghost use Rattle.build_halves.specs.FullSpools.{NoPageOnlyIfFull};
-ghost use Rattle.building.specs.declared.turn.Turn.{Turn};
+ghost use Rattle.live_lemmas.specs.FullSpools.{NoPageOnlyIfFull};
+ghost use Rattle.page_workers.specs.declared.turn.Turn.{Turn};
 
 use crate::{Core, Event, Plan, Reply, Table};
 use heap_table::Undone;

@@ -7,13 +7,13 @@ ghost use Rattle.keybytes.specs.Pairs.{HaveKeysOf, AreInColumnOrder};
 ghost use Rattle.heap_table.specs.TablePairs.{pairs_at_rest};
 ghost use Rattle.build_events.specs.CoreState.{opening, abandoned, after_visits, with_heap, ReadyFollowTable};
 ghost use Rattle.std.specs.VecDeque.Iter.{deque_iter_rest};
-ghost use Rattle.build_scan.specs.SideFiles.{AreEntriesLeft, HaveEntryKeys, side_refusal};
+ghost use Rattle.table_scan.specs.SideFiles.{AreEntriesLeft, HaveEntryKeys, side_refusal};
 ghost use Rattle.heap_log.specs.declared.outcome.Outcome.{Outcome};
 ghost use Rattle.build_events.specs.BuildSteps.{OnBuild};
 ghost use Rattle.build_events.specs.Steps.{Step, HasPageCause, Answers};
 ghost use Rattle.build_events.specs.Verdicts.{HaveSharedKeys};
-ghost use Rattle.build_halves.specs.FullSpools.{IfSpooling, NoPageOnlyIfFull, WantedPage};
-ghost use Rattle.build_work.specs.Holding.{spools_in};
+ghost use Rattle.live_lemmas.specs.FullSpools.{IfSpooling, NoPageOnlyIfFull, WantedPage};
+ghost use Rattle.building.specs.Holding.{spools_in};
 ghost use Rattle.build_events.specs.Soundness.{BuildIsSound};
 
 use crate::{Building, Ends, Event, Live, Pair, Plan, ReadyIndex, Reply, Table};
@@ -35,7 +35,7 @@ pub struct Core<S: Spool, T: Table> {
 
 impl<S: Spool, T: Table> Model for Core<S, T> {
     ghost use Rattle.build_events.specs.CoreState.{CoreState};
-    ghost use Rattle.build_halves.specs.Builds.{core_state, StandsBeside};
+    ghost use Rattle.live_lemmas.specs.Builds.{core_state, StandsBeside};
 
     ghost Value = { CoreState };
 

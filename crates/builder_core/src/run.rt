@@ -1,8 +1,8 @@
 ghost use Rattle.std.specs.Prelude.{◌≡◌, All, map, IfOk, IfErr, OnErr};
 ghost use Rattle.build_events.specs.CoreState.{ReadyFollowTable};
 ghost use Rattle.build_events.specs.Headline.{RunsAsAtRest};
-ghost use Rattle.build_work.specs.Holding.{spools_in};
-ghost use Rattle.build_halves.specs.FullSpools.{WantedPage};
+ghost use Rattle.building.specs.Holding.{spools_in};
+ghost use Rattle.live_lemmas.specs.FullSpools.{WantedPage};
 
 use crate::{Core, Ends, Event, Live, Reply, Table};
 use index_load::end_spools;

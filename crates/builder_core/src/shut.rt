@@ -25,15 +25,15 @@ impl<S: Spool> Drop for Shut<S> {
 }
 
 impl<S: Spool> Model for Shut<S> {
-    ghost use Rattle.build_halves.specs.Builds.{ShutValue};
+    ghost use Rattle.live_lemmas.specs.Builds.{ShutValue};
 
     ghost Value = { ShutValue };
 
     ghost use Rattle.std.specs.Prelude.{◌≡◌};
-    ghost use Rattle.build_halves.specs.Builds.{core_state, StandsBeside};
-    ghost use Rattle.build_scan.specs.SideFiles.{side_rings, taken_rings};
-    ghost use Rattle.build_work.specs.BuildingValue.{intakes};
-    ghost use Rattle.build_work.specs.Rings.{put_rings, take_rings};
+    ghost use Rattle.live_lemmas.specs.Builds.{core_state, StandsBeside};
+    ghost use Rattle.table_scan.specs.SideFiles.{side_rings, taken_rings};
+    ghost use Rattle.building.specs.BuildingValue.{intakes};
+    ghost use Rattle.building.specs.Rings.{put_rings, take_rings};
 
     ghost view = { λ shut. record { core = core_state shut.live shut.building; pages = put_rings shut.live.pages; sides = side_rings shut.live.sides } };
 

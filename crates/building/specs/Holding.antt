@@ -1,45 +1,46 @@
--- What a worker's maker and spools hold of the copies that it took: of each index the pairs in closed runs, and those in no run yet.
-use Rattle.std.specs.Prelude.{◌≡◌, ℕ, ◌+◌, ◌*◌, ◌<◌, ◌≤◌, ◌%◌, List, [], ◌++◌, length, get_or, IsPermutation}
+-- The spools of a build: those that its workers have, and those that no worker has.
+use Rattle.std.specs.Prelude.{◌≡◌, ℕ, ◌-◌, ◌*◌, ◌<◌, Bool, if◌then◌else◌, List, [], ◌++◌, map, flat_map, length, Option, Some}
+use Rattle.std.specs.List.{All, slice_get}
 use Rattle.keybytes.specs.Keys.{KeySpecValue}
+use Rattle.keybytes.specs.declared.kind.Kind.{Kind}
 use Rattle.keybytes.specs.declared.pair.Pair.{Pair}
-use Rattle.heap_table.specs.Images.{ImageValue}
-use Rattle.run_spool.specs.Spools.{all_pairs}
-use Rattle.run_maker.specs.Making.{Holdings, AddsAt, held_at, spec_at}
-use Rattle.building.specs.ImagePairs.{HavePairs}
+use Rattle.spool_ledger.specs.Accounts.{Stake}
+use Rattle.run_spool.specs.Spools.{AreSorted, holds_nothing}
+use Rattle.run_maker.specs.Making.{MakerValue, spec_at}
+use Rattle.page_workers.specs.Holding.{HoldsPairs}
+use Rattle.page_workers.specs.SpoolValue.{SpoolValue, runs_of}
+use Rattle.page_workers.specs.Taking.{received_images}
+use Rattle.page_workers.specs.WorkerValue.{WorkerValue}
+use Rattle.build_events.specs.CoreState.{SpoolsState}
+use Rattle.index_load.specs.Columns.{column}
 
--- each index is held with the pairs of these images more, and closes a run as soon as 4,096 are in none
-abbrev pub TakesAll : List KeySpecValue → List ImageValue → Holdings → Holdings → Type 0
-TakesAll specs images old new = (i : ℕ) → i < length specs → (made : List Pair) → HavePairs (spec_at specs i) images made → AddsAt i made old new
+-- the spools that the workers have, worker by worker
+abbrev pub workers_spools : List WorkerValue → List SpoolValue
+workers_spools workers = flat_map (λ worker. worker.spools) workers
 
--- each index is held with the pairs of these images more, and with the first of those of the last ones
-abbrev pub TakesUpTo : List KeySpecValue → List ImageValue → List ImageValue → Holdings → Holdings → Type 0
-TakesUpTo specs images last old new =
-    (i : ℕ) → i < length specs → (made next : List Pair) → HavePairs (spec_at specs i) images made → HavePairs (spec_at specs i) last next
-    → (first : List Pair) × (others : List Pair) × (next ≡ first ++ others) × AddsAt i (made ++ first) old new
+-- all spools, in the order in which they were handed in
+abbrev pub all_spools : List WorkerValue → List SpoolValue → List SpoolValue
+all_spools workers spools = spools ++ workers_spools workers
 
--- index i is held with these pairs more, and none is left in an open run: each closed run more has 4,096 of them, but perhaps the last
-pub record HoldsMoreAt (i : ℕ) (made : List Pair) (old new : Holdings) : Type 0 where
-  pub all : IsPermutation (held_at i old ++ made) (held_at i new)
-  pub enough : 4096 * length (get_or old.runs i []) + (length (get_or old.begun i []) + length made) ≤ 4096 * length (get_or new.runs i [])
-  pub few : 4096 * length (get_or new.runs i []) < 4096 * length (get_or old.runs i []) + (length (get_or old.begun i []) + length made) + 4096
+-- spools as callers of the core see them; those that a build was given are not left for a next one
+abbrev pub spools_state : Bool → List SpoolValue → SpoolsState
+spools_state given spools = record {
+  stakes = map (λ spool. spool.stake) spools;
+  left = if given then [] else map (λ spool. holds_nothing spool.runs spool.open_run) spools;
+}
 
--- each index is held with the pairs of these images more, in closed runs
-abbrev pub HoldsMore : List KeySpecValue → List ImageValue → Holdings → Holdings → Type 0
-HoldsMore specs images old new =
-    (i : ℕ) → i < length specs → (made : List Pair) → HavePairs (spec_at specs i) images made → HoldsMoreAt i made old new
+-- spools that are handed in
+abbrev pub spools_in : {S : Type 0} → (S → List (List Pair)) → (S → List Pair) → (S → Option Stake) → List S → SpoolsState
+spools_in runs open_run stake spools = record { stakes = map stake spools; left = map (λ spool. holds_nothing (runs spool) (open_run spool)) spools }
 
--- an index's pairs of these images are held, each as often as it is there, in the closed runs and in no run yet
-pub record HoldsPairs (spec : KeySpecValue) (images : List ImageValue) (runs : List (List Pair)) (begun : List Pair) : Type 0 where
-  pub made : List Pair
-  pub have : HavePairs spec images made
-  pub all : IsPermutation made (all_pairs runs ++ begun)
+-- a maker that has made nothing
+abbrev pub fresh_maker : List Kind → List KeySpecValue → MakerValue
+fresh_maker kinds specs = record { schema = kinds; specs = specs; begun = map (λ _. []) specs }
 
--- of the pairs of these images, which were taken since the last seal, those are in no run yet that don't fill one
-pub record HoldsOpen (spec : KeySpecValue) (images : List ImageValue) (begun : List Pair) : Type 0 where
-  pub last : List Pair
-  pub since_seal : HavePairs spec images last
-  pub open_run : length begun ≡ length last % 4096
-
--- the pairs that are held of index i, with those of these images behind them
-abbrev pub AreHeldWith : List KeySpecValue → List ImageValue → Holdings → ℕ → List Pair → Type 0
-AreHeldWith specs images held i pairs = (made : List Pair) × HavePairs (spec_at specs i) images made × (pairs ≡ held_at i held ++ made)
+-- once they were handed over, the spools of the indexes that pass hold the pairs of the copies that their workers took, in closed runs
+pub record HaveColumns (is_open : ℕ → Type 0) (specs : List KeySpecValue) (workers : List WorkerValue) (spools : List SpoolValue) : Type 0 where
+  pub many : length spools ≡ length workers * length specs
+  pub sorted : (index : ℕ) → index < length specs → is_open index → All AreSorted (runs_of (column index (length specs) spools))
+  pub pairs : (index k : ℕ) (worker : WorkerValue) (spool : SpoolValue) → index < length specs → is_open index → slice_get workers k ≡ Some worker
+      → slice_get (column index (length specs) spools) k ≡ Some spool
+      → HoldsPairs (spec_at specs index) (received_images worker.maker.schema worker.intake) spool.runs []

@@ -1,29 +1,33 @@
-//! What the workers of an index build do outside of the table's lock.
+//! What stands beside a table while its indexes are built: the workers, their spools and the work on each index.
 //!
-//! The step that holds the lock copies a page and puts the copy into the ring of one worker: a [`PagePutter`] is that end of a
-//! ring, which has room for [`RING_IMAGES`] copies. The [`Intake`] at the other end takes the copies out, and lets its maker put the
-//! pairs of key and RID of their rows into the spools that it is lent, one for each index.
-//!
-//! Rings live longer than builds, so each copy carries the number of its build ([`Copied`]), and a worker drops what was put
-//! for another build. A worker whose memory or pages run out spoils its build; [`Intake::restart`] begins the next one.
-//!
-//! A [`Worker`] is one place of a build: such an end, with the maker and the spools of its own. Its type keeps what they hold, so a
-//! thread that is lent one need only promise that it is the same worker that comes back, with its own spools.
-//!
-//! A contract sees of an end all that it ever put or took, so that a caller with both ends at hand can show that what was
-//! taken is what was put.
+//! A [`Building`] has all of it, and no lock keeps it: the workers of the build that runs, each with the end of its ring and its
+//! spools, the ends of the side-files' rings, the spools that no worker has, and the [`Work`], of each index an [`IndexWork`]. While its
+//! workers are lent to threads it is [`WithoutWorkers`], and [`WithoutLoads`] while the loads of its indexes are. A [`ShutBuilding`] is one whose
+//! name was taken off. Between two builds the rings'
+//! ends are [`Ends`], and what the next build's workers begin with is made by [`prepare`]. What its workers, spools and work have to do with
+//! the build that a table knows is said once, by `AreAtWork` and `IsWorkOfBuild` of `specs/WorkOn.antt`.
 #![tactic(auto)]
 
-mod copied;
-mod intake;
-mod page_putter;
-mod table;
-mod turn;
-mod worker;
+mod beside;
+mod ends;
+mod equipment;
+mod index_work;
+mod lending;
+mod load_lending;
+mod loads;
+mod looking;
+mod returning;
+mod rings;
+mod shut_building;
+mod sorted;
+mod turns;
+mod work;
 
-pub use copied::Copied;
-pub use intake::Intake;
-pub use page_putter::{PagePutter, RING_IMAGES, page_ring};
-pub use table::Table;
-pub use turn::Turn;
-pub use worker::Worker;
+pub use beside::Building;
+pub use ends::Ends;
+pub use equipment::{Equipment, prepare};
+pub use index_work::IndexWork;
+pub use lending::WithoutWorkers;
+pub use load_lending::WithoutLoads;
+pub use shut_building::ShutBuilding;
+pub use work::Work;

@@ -1,1 +1,5 @@
+pub mod Dealt
+pub mod Heads
+pub mod InOrder
+pub mod Parts
 pub mod Fronts

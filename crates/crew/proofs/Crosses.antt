@@ -8,11 +8,11 @@ use denote.Param.SendFields.{FieldsHave, as_row_send, declared_send}
 use denote.Struct.Field.{row_field}
 use denote.Struct.Tuple.{TupleAt, parts, type_at}
 use Rattle.std.proofs.Crossing.{crosses}
-use Rattle.known_log.proofs.known.Known.TheSendSync as known
-use Rattle.known_log.proofs.keeper.Keeper.TheSendSync as keeper
+use Rattle.log_prefixes.proofs.known.Known.TheSendSync as known
+use Rattle.log_prefixes.proofs.keeper.Keeper.TheSendSync as keeper
 use Rattle.crew.proofs.progress.Progress.TheSendSync as progress
-use Rattle.known_log.specs.declared.named.Named as named
-use Rattle.building.specs.declared.table.Table as table
+use Rattle.log_prefixes.specs.declared.named.Named as named
+use Rattle.page_workers.specs.declared.table.Table as table
 use Rattle.live_table.proofs.Crosses.{live_send}
 use Rattle.crew.specs.declared.opened.Opened as opened
 use Rattle.crew.specs.contracts.locked.Locked as Locked

@@ -6,12 +6,12 @@ use Rattle.std.proofs.lemmas.List.Elements.{All-head, All-tail}
 use Rattle.keybytes.specs.Faults.{first_cause}
 use Rattle.keybytes.specs.Keys.{KeySpecValue}
 use Rattle.keybytes.specs.declared.fault.Fault.{Fault}
-use Rattle.building.specs.SpoolValue.{stakes_of}
-use Rattle.building.specs.WorkerValue.{WorkerValue}
-use Rattle.build_work.proofs.OneWorker.{the_work}
-use Rattle.build_work.specs.BuildingValue.{BuildingValue, WorkValue}
-use Rattle.build_work.specs.Holding.{all_spools}
-use Rattle.build_work.specs.Lent.{lowest_fault}
+use Rattle.page_workers.specs.SpoolValue.{stakes_of}
+use Rattle.page_workers.specs.WorkerValue.{WorkerValue}
+use Rattle.building.proofs.OneWorker.{the_work}
+use Rattle.building.specs.BuildingValue.{BuildingValue, WorkValue}
+use Rattle.building.specs.Holding.{all_spools}
+use Rattle.building.specs.Lent.{lowest_fault}
 use Rattle.crew.specs.Places.{GoesOnWith, StillScans, places_of, stakes_beside}
 use Rattle.crew.proofs.Places.{same_stakes}
 use Rattle.crew.proofs.Steps.{goes_with}

@@ -6,11 +6,11 @@ use Rattle.std.proofs.lemmas.List.Elements.{All-head, All-tail}
 use Rattle.keybytes.specs.declared.pair.Pair.{Pair}
 use Rattle.spool_ledger.specs.Accounts.{Stake}
 use Rattle.run_spool.specs.Spools.{holds_nothing}
-use Rattle.building.specs.SpoolValue.{SpoolValue, spool_value, stakes_of}
+use Rattle.page_workers.specs.SpoolValue.{SpoolValue, spool_value, stakes_of}
 use Rattle.index_load.proofs.SpoolsSeen.{stakes_seen}
-use Rattle.build_work.proofs.LeftBeside.{at_home, left_seen}
-use Rattle.build_work.specs.BuildingValue.{BuildingValue}
-use Rattle.build_work.specs.Holding.{all_spools, spools_state}
+use Rattle.building.proofs.LeftBeside.{at_home, left_seen}
+use Rattle.building.specs.BuildingValue.{BuildingValue}
+use Rattle.building.specs.Holding.{all_spools, spools_state}
 use Rattle.crew.specs.Places.{HasPairsLeft, stakes_beside}
 
 module _ {S : Type 0} (runs : S → List (List Pair)) (open_run : S → List Pair) (stake : S → Option Stake) where

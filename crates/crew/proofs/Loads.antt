@@ -7,17 +7,17 @@ use Rattle.std.proofs.lemmas.Option.{same_Some}
 use Rattle.keybytes.specs.Keys.{KeySpecValue}
 use Rattle.keybytes.specs.declared.fault.Fault.{Fault}
 use Rattle.keybytes.specs.declared.pair.Pair.{Pair}
-use Rattle.building.specs.SpoolValue.{SpoolValue, ended_spool, stakes_of}
-use Rattle.building.specs.WorkerValue.{WorkerValue}
-use Rattle.building.proofs.Places.{at_set}
-use Rattle.build_work.proofs.OneWorker.{the_work}
-use Rattle.build_work.specs.BuildingValue.{BuildingValue, IndexValue, WorkValue, with_index}
-use Rattle.build_work.specs.Holding.{workers_spools}
-use Rattle.build_work.specs.IndexLoads.{CanLoadAll, HasLoadedAll, LoadsStopped, loaded_from}
-use Rattle.build_work.specs.Keeping.{KeepsWork}
-use Rattle.build_work.specs.Working.{HasApplied, HasSeenEntries}
-use Rattle.build_halves.specs.Builds.{LiveValue}
-use Rattle.build_halves.specs.Switching.{HandsOver}
+use Rattle.page_workers.specs.SpoolValue.{SpoolValue, ended_spool, stakes_of}
+use Rattle.page_workers.specs.WorkerValue.{WorkerValue}
+use Rattle.page_workers.proofs.Places.{at_set}
+use Rattle.building.proofs.OneWorker.{the_work}
+use Rattle.building.specs.BuildingValue.{BuildingValue, IndexValue, WorkValue, with_index}
+use Rattle.building.specs.Holding.{workers_spools}
+use Rattle.building.specs.IndexLoads.{CanLoadAll, HasLoadedAll, LoadsStopped, loaded_from}
+use Rattle.building.specs.Keeping.{KeepsWork}
+use Rattle.building.specs.Working.{HasApplied, HasSeenEntries}
+use Rattle.live_lemmas.specs.Builds.{LiveValue}
+use Rattle.live_lemmas.specs.Switching.{HandsOver}
 use Rattle.crew.specs.Places.{GoesOnWith, stakes_beside}
 use Rattle.crew.proofs.Steps.{goes_same}
 

@@ -15,8 +15,8 @@ use Rattle.ready_indexes.specs.Indexes.{ReadyValue, index_now}
 use Rattle.build_events.specs.BuildSteps.{Switches}
 use Rattle.build_events.specs.CoreState.{CoreState, LiveState}
 use Rattle.build_events.specs.Verdicts.{accepted, next_number, outcome, outcomes, verdict_on}
-use Rattle.build_halves.specs.Builds.{LiveValue, core_state}
-use Rattle.build_work.specs.BuildingValue.{BuildingValue}
+use Rattle.live_lemmas.specs.Builds.{LiveValue, core_state}
+use Rattle.building.specs.BuildingValue.{BuildingValue}
 use Rattle.crew.specs.MadeReady.{HasMadeReady, is_ready, ready_by}
 use Rattle.crew.proofs.Steps.{on_build}
 

@@ -15,7 +15,7 @@ use Rattle.scan_range.specs.Cuts.{are_cuts, ranges_most}
 use Rattle.scan_range.specs.Dealings.{dealing_refusal}
 use Rattle.scan_range.specs.declared.dealing.Dealing.{Dealing}
 use Rattle.scan_range.specs.declared.dealing.Dealing.TheVariants.{Ends, Even}
-use Rattle.building.specs.WorkerValue.{IsShortage}
+use Rattle.page_workers.specs.WorkerValue.{IsShortage}
 use Rattle.build_events.specs.BuildSteps.{behind_refusal, build_cause, busy_refusal, cause_if, counts_fit, counts_refusal, range_refusal, spools_refusal, start_refusal}
 use Rattle.build_events.specs.CoreState.{BuildState, LiveState, SpoolsState}
 use Rattle.build_events.specs.Ranges.{next_page}

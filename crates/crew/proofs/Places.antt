@@ -4,12 +4,12 @@ use Rattle.std.specs.Prelude.{flat_map}
 use Rattle.std.proofs.lemmas.List.{map-append}
 use Rattle.side_file.specs.Ends.{RingId}
 use Rattle.spool_ledger.specs.Accounts.{Stake}
-use Rattle.building.specs.SpoolValue.{SpoolValue, stakes_of}
-use Rattle.building.specs.WorkerValue.{SameWorker, WorkerValue}
-use Rattle.building.proofs.Places.{as_long, same_at}
-use Rattle.build_work.specs.BuildingValue.{BuildingValue}
-use Rattle.build_work.specs.Holding.{all_spools, workers_spools}
-use Rattle.build_work.specs.Lent.{AreBack, IsBack}
+use Rattle.page_workers.specs.SpoolValue.{SpoolValue, stakes_of}
+use Rattle.page_workers.specs.WorkerValue.{SameWorker, WorkerValue}
+use Rattle.page_workers.proofs.Places.{as_long, same_at}
+use Rattle.building.specs.BuildingValue.{BuildingValue}
+use Rattle.building.specs.Holding.{all_spools, workers_spools}
+use Rattle.building.specs.Lent.{AreBack, IsBack}
 use Rattle.crew.specs.Places.{PlaceValue, place_of, places_of}
 
 -- a worker that is the same keeps its place

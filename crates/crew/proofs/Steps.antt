@@ -21,16 +21,16 @@ use Rattle.build_events.specs.Ranges.{open_range}
 use Rattle.build_events.specs.Verdicts.{accepted, outcomes, verdict_on}
 use Rattle.build_events.specs.Workers.{all_unapplied, unloaded_index}
 use Rattle.build_events.specs.declared.plan.Plan.{Plan}
-use Rattle.building.proofs.Places.{same_at}
-use Rattle.build_halves.proofs.Starts.{has_counts}
-use Rattle.build_halves.specs.Builds.{LiveValue, StandsBeside, core_state}
-use Rattle.build_halves.specs.Switching.{HandsOver, IsOnlyLookedAt, IsPartOf, KeepsOut, RefusesSwitch}
-use Rattle.building.specs.SpoolValue.{SpoolValue, stakes_of}
-use Rattle.build_work.proofs.Looked.{lent_looked}
-use Rattle.build_work.proofs.OneWorker.{the_work}
-use Rattle.build_work.specs.BuildingValue.{BuildingValue, IndexValue, WorkValue, index_state, state_unless, work_state}
-use Rattle.build_work.specs.Lent.{CanLend}
-use Rattle.build_work.specs.WorkOn.{WorkMatches, IsWorkOfBuild}
+use Rattle.page_workers.proofs.Places.{same_at}
+use Rattle.live_lemmas.proofs.Starts.{has_counts}
+use Rattle.live_lemmas.specs.Builds.{LiveValue, StandsBeside, core_state}
+use Rattle.live_lemmas.specs.Switching.{HandsOver, IsOnlyLookedAt, IsPartOf, KeepsOut, RefusesSwitch}
+use Rattle.page_workers.specs.SpoolValue.{SpoolValue, stakes_of}
+use Rattle.building.proofs.Looked.{lent_looked}
+use Rattle.building.proofs.OneWorker.{the_work}
+use Rattle.building.specs.BuildingValue.{BuildingValue, IndexValue, WorkValue, index_state, state_unless, work_state}
+use Rattle.building.specs.Lent.{CanLend}
+use Rattle.building.specs.WorkOn.{WorkMatches, IsWorkOfBuild}
 use Rattle.ready_indexes.specs.Indexes.{index_now}
 use Rattle.crew.specs.Reports.{EndsFor, IsOther}
 use Rattle.crew.specs.Places.{GoesOnWith, stakes_beside}

@@ -7,9 +7,9 @@ use Rattle.heap_log.specs.declared.outcome.Outcome.{Outcome}
 use Rattle.heap_log.specs.declared.record.LogRec.{LogRec}
 use Rattle.heap_log.specs.declared.record.LogRec.TheVariants.{Switch}
 use Rattle.build_events.specs.BuildSteps.{Switches}
-use Rattle.build_halves.specs.Builds.{LiveValue, core_state}
-use Rattle.build_halves.specs.Switching.{IsPartOf, RefusesSwitch}
-use Rattle.build_work.specs.BuildingValue.{BuildingValue, WorkValue}
+use Rattle.live_lemmas.specs.Builds.{LiveValue, core_state}
+use Rattle.live_lemmas.specs.Switching.{IsPartOf, RefusesSwitch}
+use Rattle.building.specs.BuildingValue.{BuildingValue, WorkValue}
 use Rattle.ready_indexes.specs.Indexes.{ReadyValue}
 use Rattle.crew.specs.MadeReady.{HasMadeReady}
 use Rattle.crew.specs.Reports.{EndsFor, IsReport}

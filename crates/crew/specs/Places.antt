@@ -4,10 +4,10 @@ use Rattle.std.specs.List.{list_all, slice_get}
 use Rattle.keybytes.specs.Keys.{KeySpecValue}
 use Rattle.spool_ledger.specs.Accounts.{Stake}
 use Rattle.side_file.specs.Ends.{RingId}
-use Rattle.building.specs.SpoolValue.{stakes_of}
-use Rattle.building.specs.WorkerValue.{WorkerValue}
-use Rattle.build_work.specs.BuildingValue.{BuildingValue, IndexValue, WorkValue}
-use Rattle.build_work.specs.Holding.{all_spools, spools_state}
+use Rattle.page_workers.specs.SpoolValue.{stakes_of}
+use Rattle.page_workers.specs.WorkerValue.{WorkerValue}
+use Rattle.building.specs.BuildingValue.{BuildingValue, IndexValue, WorkValue}
+use Rattle.building.specs.Holding.{all_spools, spools_state}
 
 -- a worker's number and its ring, its build with the indexes, whether its spools went to these, and the stakes of its spools
 pub record PlaceValue : Type 0 where

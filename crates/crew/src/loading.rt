@@ -3,8 +3,8 @@ ghost use Rattle.std.specs.Prelude.{◌≡◌, ◌≤◌, ◌+◌, [], List, len
 ghost use Rattle.keybytes.specs.declared.fault.Fault.{Fault};
 ghost use Rattle.std.specs.List.{AllZip};
 ghost use Rattle.index_load.specs.IndexLoad.{HasRun, IndexLoadValue};
-ghost use Rattle.build_work.specs.Equipped.{HasRoomFor};
-ghost use Rattle.build_work.specs.IndexLoads.{CanLoadAll, HasLoadedAll, LoadsStopped};
+ghost use Rattle.building.specs.Equipped.{HasRoomFor};
+ghost use Rattle.building.specs.IndexLoads.{CanLoadAll, HasLoadedAll, LoadsStopped};
 ghost use Rattle.crew.specs.Loading.{AreLoadsOf};
 ghost use Rattle.crew.specs.Places.{GoesOnWith, stakes_beside};
 

@@ -1,6 +1,5 @@
-use counted_spool::CountedSpool;
 use heap_log::Verdicts;
-use spool_kinds::SpoolOfKind;
+use spool_kinds::{CountedSpool, SpoolOfKind};
 
 /// What a build came to.
 pub struct Built {

@@ -1,7 +1,7 @@
 use crate::search::Search;
-use csv_table::{Asked, Lines};
+use crate::table::{Asked, Lines};
+use command_line::IndexWords;
 use std::alloc::Global;
-use words::IndexWords;
 
 /// What is known of a table beside its rows.
 #[derive(Clone, Copy)]

@@ -17,6 +17,7 @@ mod search;
 mod search_key;
 mod searches;
 mod spools;
+mod table;
 mod watching;
 
 pub use progress_line::ProgressLine;

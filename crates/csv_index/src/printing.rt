@@ -2,15 +2,14 @@
 
 use crate::facts::Facts;
 use crate::row_printer::RowPrinter;
+use crate::table::Failure;
 use builder_core::{Live, Table};
-use counted_spool::CountedSpool;
-use csv_table::Failure;
+use command_line::IndexWord;
 use heap_log::Outcome;
 use keybytes::{Cell, Fault, KeySpec, Rid};
-use spool_kinds::SpoolOfKind;
+use spool_kinds::{CountedSpool, SpoolOfKind};
 use std::io::{self, Write};
 use tree_nodes::{FAN_MAX, LEAF_MAX};
-use words::IndexWord;
 
 /// Prints how much was done: what was read, scanned and loaded, and how many pages the spools of each index had leased at most.
 pub fn print_counts<T: Table, E: Write>(

@@ -1,4 +1,4 @@
-use csv_table::Watch;
+use crate::table::Watch;
 use std::io::{self, Write};
 use std::time::{Clock, Duration, Instant};
 

@@ -1,5 +1,5 @@
+use crate::table::{Column, Failure};
 use csv::{Writer, WriterBuilder};
-use csv_table::{Column, Failure};
 use keybytes::Cell;
 use std::alloc::Global;
 use std::fmt::Write as _;

@@ -7,21 +7,20 @@ use crate::listing::list;
 use crate::printing::{print_counts, print_verdicts};
 use crate::searches::searches;
 use crate::spools::{Amount, counted_spools};
+use crate::table::{Asked, Failure, Filled, KeySizes, Reading, Watch, fill};
 use crate::watching::Watching;
 use builder_core::{Dealing, Ends, Live, Parts, Plan};
-use counted_spool::CountedSpool;
+use command_line::IndexWords;
 use crew::{BuildFault, Opened, Table, TableParts, build};
-use csv_table::{Asked, Failure, Filled, KeySizes, Reading, Watch, fill};
 use heap_log::Verdicts;
 use heap_table::Heap;
 use keybytes::{Fault, copied_specs};
-use spool_kinds::SpoolOfKind;
+use spool_kinds::{CountedSpool, SpoolOfKind};
 use std::alloc::Global;
 use std::io::{self, ErrorKind, Read, Write};
 use std::marker::Brand;
 use std::sync::Wait;
 use std::thread::{Threads, available_parallelism};
-use words::IndexWords;
 
 /// How many workers there are where nobody knows how many processors.
 const WORKERS: usize = 4;

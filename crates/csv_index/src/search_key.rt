@@ -1,7 +1,7 @@
 //! Keys that a user asks for.
 
+use crate::table::{CellFault, Column, Failure, Refusal, cell, record};
 use csv::StringRecord;
-use csv_table::{CellFault, Column, Failure, Refusal, cell, record};
 use keybytes::{Fault, KEY_MAX, Key, KeyCol, KeySpec, Row, Schema};
 use std::alloc::{AllocError, Global};
 

@@ -3,10 +3,10 @@
 use crate::range_text::parts;
 use crate::search::Search;
 use crate::search_key::{Subject, above};
-use csv_table::{Asked, Failure, Refusal};
+use crate::table::{Asked, Failure, Refusal};
+use command_line::IndexWords;
 use keybytes::Key;
 use std::alloc::Global;
-use words::IndexWords;
 
 /// What the words look for, in the order in which it is printed.
 pub fn searches(

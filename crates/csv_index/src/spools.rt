@@ -1,11 +1,10 @@
 //! The spools of a build.
 
+use crate::table::KeySizes;
 use builder_core::{INDEXES_MAX, WORKERS_MAX};
-use counted_spool::CountedSpool;
-use csv_table::KeySizes;
 use keybytes::{Fault, KEY_MAX, KeySpec};
-use spool_choice::SpoolChoice;
-use spool_kinds::{SpoolOfKind, spools_over};
+use run_spool::SpoolChoice;
+use spool_kinds::{CountedSpool, SpoolOfKind, spools_over};
 use spool_ledger::{PAGE_SIZE, Pool};
 use std::alloc::Global;
 

@@ -1,5 +1,5 @@
+use crate::table::Watch;
 use crew::{Gate, Point};
-use csv_table::Watch;
 use std::sync::atomic::{AtomicU64, Ordering};
 use std::sync::{Mutex, Wait};
 

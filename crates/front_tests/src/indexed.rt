@@ -1,3 +1,4 @@
+use command_line::{Choice, read};
 use csv_index::{ProgressLine, index};
 use std::alloc::{AllocError, Global};
 use std::io::{self, Read, Write};
@@ -5,7 +6,6 @@ use std::str;
 use std::sync::Wait;
 use std::thread::Threads;
 use std::time::{Clock, Duration};
-use words::{Choice, read};
 
 /// A clock that stands.
 #[derive(Clone, Copy)]

@@ -6,7 +6,7 @@ use Rattle.keybytes.specs.declared.pair.Pair.{Pair}
 use Rattle.keybytes.specs.Pairs.{AreOrdered}
 use Rattle.run_spool.specs.Spools.{AreSorted, all_pairs}
 use Rattle.run_merge.specs.Merging.{all_runs}
-use Rattle.spool_trees.specs.Each.{AreEachOnce}
+use Rattle.bulk_load.specs.Each.{AreEachOnce}
 use Rattle.index_load.specs.Columns.{column}
 use Rattle.index_load.proofs.Columns.{every_map}
 use Rattle.growth_tests.specs.OneRun.{HasOneRun}

@@ -6,8 +6,7 @@ use builder_core::{Core, Dealing, Ends, Event, Live, Parts, Plan, Reply, Table, 
 use heap_table::Heap;
 use keybytes::{Fault, KeySpec, Rid};
 use leased_core::Leases;
-use run_spool::Spool;
-use spool_choice::SpoolChoice;
+use run_spool::{Spool, SpoolChoice};
 use std::alloc::Global;
 use std::marker::Brand;
 

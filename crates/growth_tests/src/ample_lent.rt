@@ -1,23 +1,22 @@
 //! The calls of a build whose workers and loads are lent, and of what stands beside the table alone.
 ghost use Rattle.std.specs.Prelude.{◌≡◌, All, List, None, true};
 ghost use Rattle.std.specs.List.{AllZip};
-ghost use Rattle.building.specs.WorkerValue.{SameWorker};
+ghost use Rattle.page_workers.specs.WorkerValue.{SameWorker};
 ghost use Rattle.side_file.specs.Ends.{RingId};
-ghost use Rattle.build_work.specs.BuildingValue.{BuildingValue};
-ghost use Rattle.build_work.specs.IndexLoads.{CanLoadAll};
-ghost use Rattle.build_work.specs.Lent.{AreBack, CanLend};
+ghost use Rattle.building.specs.BuildingValue.{BuildingValue};
+ghost use Rattle.building.specs.IndexLoads.{CanLoadAll};
+ghost use Rattle.building.specs.Lent.{AreBack, CanLend};
 ghost use Rattle.index_load.specs.IndexLoad.{HasRun};
 
 use crate::ample_turns::{plan, scan, three_rows, write};
-use build_work::{IndexWork, Work};
 use builder_core::{Building, Ends, Live, Parts, Plan, Table, Worker};
-use building::Turn;
+use building::{IndexWork, Work};
 use index_load::IndexLoad;
 use keybytes::Fault;
 use leased_core::Leases;
+use page_workers::Turn;
 use run_maker::StdSort;
-use run_spool::Spool;
-use spool_choice::SpoolChoice;
+use run_spool::{Spool, SpoolChoice};
 use std::alloc::Global;
 use std::marker::Brand;
 use std::sync::Wait;

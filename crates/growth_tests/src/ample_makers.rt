@@ -4,9 +4,9 @@ ghost use Rattle.run_maker.specs.Making.{AreReady};
 
 use crate::ample_spools::{paged_spool, pair};
 use crate::asks::{Index, row, schema, spec};
-use building::{Copied, Intake, PagePutter, page_ring};
 use heap_table::{Heap, PageImage};
 use keybytes::Fault;
+use page_workers::{Copied, Intake, PagePutter, page_ring};
 use run_maker::{Maker, ParSort, RunSort, StdSort};
 use run_spool::{PlainPage, Spool};
 use std::alloc::Global;

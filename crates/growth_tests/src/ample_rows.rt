@@ -4,9 +4,9 @@ use heap_log::{Log, LogRec, Outcome, Verdicts};
 use keybytes::{
     Cell, Fault, Key, KeyCol, KeyMemory, KeySpec, Kind, Rid, Row, Schema, Text, When, copied_specs,
 };
+use run_spool::SpoolChoice;
 use scan_range::{Cuts, Dealing, Ranges};
 use side_file::SideFile;
-use spool_choice::SpoolChoice;
 use spool_kinds::spools_over;
 use spool_ledger::Pool;
 use std::alloc::Global;

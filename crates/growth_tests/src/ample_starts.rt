@@ -5,17 +5,17 @@ ghost use Rattle.ready_indexes.specs.Following.{FitsColumns};
 
 use crate::asks::{Index, row, schema, spec};
 use btree::Tree;
-use build_scan::{TableScan, note};
-use build_work::{Equipment, Work, prepare};
+use building::{Equipment, Work, prepare};
 use heap_table::{Heap, Ready};
 use keybytes::{Fault, KeySpec, Row, Schema};
-use known_log::Unnamed;
+use log_prefixes::Unnamed;
 use ready_indexes::{ReadyIndexes, key_there};
 use run_spool::PlainSpool;
 use scan_range::Cuts;
 use side_file::SideFile;
 use std::alloc::Global;
 use std::slice::from_ref;
+use table_scan::{TableScan, note};
 
 const INDEX: Index = Index {
     column: 0,

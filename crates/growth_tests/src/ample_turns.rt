@@ -1,15 +1,14 @@
 //! The calls of a build on a table, by one who has both the table and what stands beside it.
 ghost use Rattle.std.specs.Prelude.{◌≡◌};
-ghost use Rattle.build_work.specs.BuildingValue.{BuildingValue};
-ghost use Rattle.build_halves.specs.Builds.{StandsBeside};
+ghost use Rattle.building.specs.BuildingValue.{BuildingValue};
+ghost use Rattle.live_lemmas.specs.Builds.{StandsBeside};
 
 use crate::asks::{Index, row, schema, spec};
 use builder_core::{Building, Dealing, Ends, Live, Parts, Plan, Table};
 use heap_table::{Heap, PageImage};
 use keybytes::{Fault, Rid};
 use leased_core::Leases;
-use run_spool::Spool;
-use spool_choice::SpoolChoice;
+use run_spool::{Spool, SpoolChoice};
 use std::alloc::Global;
 use std::marker::Brand;
 

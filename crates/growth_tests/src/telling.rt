@@ -10,7 +10,7 @@ use builder_core::{Parts, Table};
 use heap_table::Heap;
 use keybytes::Fault;
 use leased_core::Leases;
-use spool_choice::SpoolChoice;
+use run_spool::SpoolChoice;
 use spool_kinds::SpoolOfKind;
 use std::alloc::Global;
 use std::marker::Brand;

@@ -2,8 +2,8 @@
 
 use crate::asks::{Ask, Told};
 use crate::stories::{Story, Turn};
-use faulty_spool::Coming;
 use keybytes::Fault;
+use spool_kinds::Coming;
 use std::alloc::Global;
 
 /// One place where a spool can fail.

@@ -6,9 +6,9 @@ ghost use Rattle.run_spool.specs.PagedSpools.{new_spool};
 ghost use Rattle.hostile_tests.specs.Owing.{IsOwed};
 
 use crate::wrong::Wrong;
-use faulty_spool::{Coming, FaultySpool};
 use keybytes::Fault;
 use run_spool::{PlainSpool, Spool, give_up_all};
+use spool_kinds::{Coming, FaultySpool};
 use spool_ledger::{Account, Pool};
 use std::alloc::Global;
 

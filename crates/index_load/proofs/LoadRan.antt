@@ -6,7 +6,7 @@ use Rattle.std.specs.Prelude.{IfSome, Result, Ok, Err, is_some}
 use Rattle.keybytes.specs.declared.fault.Fault.{Fault}
 use Rattle.keybytes.specs.declared.fault.Fault.TheVariants.{Memory}
 use Rattle.run_spool.specs.Spools.{AreSorted}
-use Rattle.building.specs.SpoolValue.{SpoolValue}
+use Rattle.page_workers.specs.SpoolValue.{SpoolValue}
 use Rattle.catch_up.specs.Built.{BuiltValue}
 use Rattle.index_load.specs.IndexLoad.{HasRun, IndexLoadValue, IsLoadable, MakesIndex, with_made}
 

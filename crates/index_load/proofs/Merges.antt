@@ -6,8 +6,8 @@ use Rattle.keybytes.specs.declared.fault.Fault.{Fault}
 use Rattle.keybytes.specs.declared.fault.Fault.TheVariants.{Memory}
 use Rattle.keybytes.specs.declared.pair.Pair.{Pair}
 use Rattle.spool_ledger.specs.Accounts.{Stake}
-use Rattle.building.specs.SpoolValue.{SpoolValue, ended_spool, pairs_in, spool_value, stakes_of}
-use Rattle.building.proofs.Places.{mapped}
+use Rattle.page_workers.specs.SpoolValue.{SpoolValue, ended_spool, pairs_in, spool_value, stakes_of}
+use Rattle.page_workers.proofs.Places.{mapped}
 use Rattle.btree.specs.TreeValue.{TreeValue}
 use Rattle.catch_up.specs.Built.{BuiltValue}
 use Rattle.index_load.specs.Columns.{column, other_columns}

@@ -8,7 +8,7 @@ use Rattle.std.proofs.lemmas.Option.{same_Some, slice_get_within}
 use Rattle.std.proofs.Math.Nat.{suc-mul}
 use Rattle.index_load.specs.Columns.{column}
 use Rattle.index_load.proofs.Columns.{every_at}
-use Rattle.building.proofs.Places.{there_is}
+use Rattle.page_workers.proofs.Places.{there_is}
 
 at_front : {X : Type 0} (xs ys : List X) (i : ℕ) (x : X) → slice_get xs i ≡ Some x → slice_get (xs ++ ys) i ≡ Some x
 at_front [] ys i x at = absurd (cc)

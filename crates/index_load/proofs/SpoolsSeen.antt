@@ -3,8 +3,8 @@ use Rattle.std.proofs.Common.{◌≡◌, ◌-◌, ℕ, List, [], ◌∷◌, All,
 use Rattle.std.proofs.lemmas.List.Elements.{All-head, All-tail}
 use Rattle.spool_ledger.specs.Accounts.{Stake}
 use Rattle.keybytes.specs.declared.pair.Pair.{Pair}
-use Rattle.building.specs.SpoolValue.{SpoolValue, runs_of, spool_value, ended_spool}
-use Rattle.building.proofs.Places.{mapped}
+use Rattle.page_workers.specs.SpoolValue.{SpoolValue, runs_of, spool_value, ended_spool}
+use Rattle.page_workers.proofs.Places.{mapped}
 use Rattle.index_load.specs.Columns.{column, other_columns}
 use Rattle.index_load.proofs.Columns.{all_but_map, every_map}
 

@@ -1,5 +1,5 @@
 -- A list with an element for each worker and index: it stands worker by worker, and for each worker in the order of the indexes.
-use Rattle.building.specs.SpoolValue.{SpoolValue, ended_spool}
+use Rattle.page_workers.specs.SpoolValue.{SpoolValue, ended_spool}
 use Rattle.std.specs.Prelude.{ℕ, zero, suc, ◌-◌, List, [], ◌∷◌}
 
 -- of a list the one behind so many, and from then on each one behind so many others

@@ -5,8 +5,8 @@ use Rattle.keybytes.specs.Pairs.{AreOrdered}
 use Rattle.keybytes.specs.declared.fault.Fault.{Fault}
 use Rattle.keybytes.specs.declared.fault.Fault.TheVariants.{Memory}
 use Rattle.run_spool.specs.Spools.{AreSorted}
-use Rattle.building.specs.SpoolValue.{SpoolValue, ended_spool, pairs_in, runs_of, stakes_of}
-use Rattle.spool_trees.specs.Each.{AreEachOnce}
+use Rattle.page_workers.specs.SpoolValue.{SpoolValue, ended_spool, pairs_in, runs_of, stakes_of}
+use Rattle.bulk_load.specs.Each.{AreEachOnce}
 use Rattle.catch_up.specs.Built.{BuiltValue}
 
 -- the number of the build, whether the index is to be unique, the spools that hold its pairs, one of each worker, the index once its pairs are in

@@ -1,6 +1,6 @@
 //! Spools that a build is done with.
 ghost use Rattle.std.specs.Prelude.{◌≡◌, All, map};
-ghost use Rattle.building.specs.SpoolValue.{spool_value, ended_spool};
+ghost use Rattle.page_workers.specs.SpoolValue.{spool_value, ended_spool};
 
 use run_spool::{Spool, end_all};
 

@@ -2,8 +2,8 @@ ghost use Rattle.std.specs.Prelude.{◌≡◌, ◌⊎◌, All, None, is_some, tr
 ghost use Rattle.std.specs.Option.{option_map};
 ghost use Rattle.run_spool.specs.Spools.{AreSorted, all_pairs};
 ghost use Rattle.run_merge.specs.Merging.{all_runs};
-ghost use Rattle.building.specs.SpoolValue.{spool_value};
-ghost use Rattle.spool_trees.specs.Each.{AreEachOnce};
+ghost use Rattle.page_workers.specs.SpoolValue.{spool_value};
+ghost use Rattle.bulk_load.specs.Each.{AreEachOnce};
 ghost use Rattle.index_load.specs.IndexLoad.{HasRun, with_made, without_spools};
 
 use crate::merging::{built_in_threads, built_of};
@@ -42,7 +42,7 @@ impl<S: Spool> Drop for IndexLoad<S> {
 
 impl<S: Spool> Model for IndexLoad<S> {
     ghost use Rattle.std.specs.Prelude.{◌≡◌, None, map};
-    ghost use Rattle.building.specs.SpoolValue.{spool_value};
+    ghost use Rattle.page_workers.specs.SpoolValue.{spool_value};
     ghost use Rattle.keybytes.specs.declared.fault.Fault.{Fault};
     ghost use Rattle.index_load.specs.IndexLoad.{IndexLoadValue, IsLoadable};
 

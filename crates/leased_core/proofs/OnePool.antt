@@ -14,7 +14,7 @@ use Rattle.run_spool.specs.Spools.{holds_nothing, stakes_in}
 use Rattle.spool_kinds.specs.Kinds.{inside}
 use Rattle.spool_kinds.specs.declared.either.SpoolOfKind.{SpoolOfKind}
 use Rattle.build_events.specs.CoreState.{SpoolsState}
-use Rattle.build_work.specs.Holding.{spools_in}
+use Rattle.building.specs.Holding.{spools_in}
 use Rattle.leased_core.specs.Leasing.{AreOf, LeasesValue, new_spools, pages_of, spools_of_kinds, stake_in}
 
 -- that number, so many times, comes to the product

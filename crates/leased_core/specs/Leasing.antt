@@ -11,8 +11,8 @@ use Rattle.spool_kinds.specs.declared.either.SpoolOfKind.{SpoolOfKind}
 use Rattle.keybytes.specs.declared.fault.Fault.{Fault}
 use Rattle.keybytes.specs.declared.fault.Fault.TheVariants.{Memory}
 use Rattle.build_events.specs.CoreState.{CoreState, SpoolsState, idle, opening, with_heap}
-use Rattle.build_halves.specs.FullSpools.{WantedPage}
-use Rattle.build_work.specs.Holding.{spools_in}
+use Rattle.live_lemmas.specs.FullSpools.{WantedPage}
+use Rattle.building.specs.Holding.{spools_in}
 use Rattle.build_events.specs.Steps.{Step}
 use Rattle.build_events.specs.declared.event.Event.{Event}
 use Rattle.build_events.specs.declared.event.Event.TheVariants.{Begin, Insert, Update, Delete, Undo, Commit, Start, Scan, Digest, Seal, Load, Feed, Apply, Fence, Switch, Abandon}

@@ -15,7 +15,7 @@ use builder_core::{Core, Ends, Event, Live, Plan, Reply, Table};
 use heap_log::Verdicts;
 use heap_table::Undone;
 use keybytes::{Fault, KeySpec, Pair, Rid, Row};
-use spool_choice::SpoolChoice;
+use run_spool::SpoolChoice;
 use spool_kinds::SpoolOfKind;
 use std::alloc::Global;
 use std::marker::Model;

@@ -29,7 +29,7 @@ impl Drop for ShutLeased {
 }
 
 impl Model for ShutLeased {
-    ghost use Rattle.build_halves.specs.Builds.{ShutValue};
+    ghost use Rattle.live_lemmas.specs.Builds.{ShutValue};
     ghost use Rattle.leased_core.specs.Leasing.{LeasesFollow};
 
     ghost Value = { ShutValue };

@@ -3,16 +3,16 @@ ghost use Rattle.std.specs.Prelude.{◌≡◌, length, Some, None, ℕ, IsSome, 
 ghost use Rattle.heap_log.specs.Standing.{standing_count};
 ghost use Rattle.heap_table.specs.HeapState.{after_write, after_undo};
 ghost use Rattle.heap_table.specs.Ready.{IsReady, after_ready, answer_of};
-ghost use Rattle.build_halves.specs.Changing.{BuildHears, HasHeard};
+ghost use Rattle.live_lemmas.specs.Changing.{BuildHears, HasHeard};
 ghost use Rattle.ready_indexes.specs.Following.{AllFollow, AreLetIn, indexes_of};
 ghost use Rattle.ready_indexes.specs.Indexes.{ready_now};
 
-use build_scan::{TableScan, note};
 use heap_table::{Heap, Performed, Ready, Undone};
 use keybytes::{Fault, Rid};
 use ready_indexes::ReadyIndexes;
 use side_file::SideFile;
 use std::alloc::Global;
+use table_scan::{TableScan, note};
 
 /// Makes a change that was made ready: takes all memory first, then changes the table and its ready indexes, and appends the entries; out of
 /// memory, nothing changes.

@@ -3,7 +3,7 @@
 //! [`Parts`] are a heap with the rings for all its builds, and [`Parts::open`] gives them the name of a [`Table`]: [`Live`] is then
 //! the table, and [`Ends`] are the ends of the rings that stand beside it, of which a [`Building`] is made. Each step of a table
 //! is one call of `Live`; [`ShutLive`] is one whose name was taken off. How table and `Building` go together is told by `StandsBeside` of
-//! build_halves' `specs/Builds.antt`, and what a switch looks at by its `specs/Switching.antt`. [`at_rest`] makes the pairs of a table that
+//! live_lemmas' `specs/Builds.antt`, and what a switch looks at by its `specs/Switching.antt`. [`at_rest`] makes the pairs of a table that
 //! nobody writes.
 #![tactic(auto)]
 
@@ -21,10 +21,10 @@ mod shut_live;
 mod switched;
 
 pub use build_events::Plan;
-pub use build_work::{Building, Ends, ShutBuilding};
-pub use building::{Table, Worker};
+pub use building::{Building, Ends, ShutBuilding};
 pub use keybytes::Pair;
 pub use live::Live;
+pub use page_workers::{Table, Worker};
 pub use parts::{INDEXES_MAX, Parts, WORKERS_MAX};
 pub use ready_indexes::{ReadyIndex, ReadyIndexes};
 pub use rest::at_rest;

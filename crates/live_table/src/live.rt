@@ -7,15 +7,15 @@ ghost use Rattle.heap_table.specs.Pages.{pages_written};
 ghost use Rattle.heap_table.specs.Sound.{HoldsFollowLog};
 ghost use Rattle.heap_table.specs.TablePairs.{pairs_at_rest};
 ghost use Rattle.keybytes.specs.Pairs.{HaveKeysOf, AreInColumnOrder};
-ghost use Rattle.build_scan.specs.TableBuilds.{BuildFollows};
-ghost use Rattle.build_halves.specs.Builds.{value_with_heap};
-ghost use Rattle.build_halves.specs.Visits.{IsVisited};
-ghost use Rattle.build_work.specs.Rings.{all_sent, put_rings, AreOfBuilds};
-ghost use Rattle.build_halves.specs.Rings.{ArePutEnds};
-ghost use Rattle.build_halves.specs.Invariant.{EachPageOnce};
+ghost use Rattle.table_scan.specs.TableBuilds.{BuildFollows};
+ghost use Rattle.live_lemmas.specs.Builds.{value_with_heap};
+ghost use Rattle.live_lemmas.specs.Visits.{IsVisited};
+ghost use Rattle.building.specs.Rings.{all_sent, put_rings, AreOfBuilds};
+ghost use Rattle.live_lemmas.specs.Rings.{ArePutEnds};
+ghost use Rattle.live_lemmas.specs.Invariant.{EachPageOnce};
 ghost use Rattle.build_events.specs.Soundness.{BuildIsSound};
 ghost use Rattle.std.specs.VecDeque.Iter.{deque_iter_rest};
-ghost use Rattle.build_scan.specs.SideFiles.{AreEntriesLeft, EachEntryOnce, EntriesAreOfBuilds, HaveEntryKeys, NoneAhead, side_refusal, side_rings, put_ends};
+ghost use Rattle.table_scan.specs.SideFiles.{AreEntriesLeft, EachEntryOnce, EntriesAreOfBuilds, HaveEntryKeys, NoneAhead, side_refusal, side_rings, put_ends};
 ghost use Rattle.build_events.specs.CoreState.{abandoned, after_visits, ReadyFollowTable};
 ghost use Rattle.ready_indexes.specs.Following.{indexes_of};
 ghost use Rattle.ready_indexes.specs.KeyCauses.{KeysAreGuarded};
@@ -23,15 +23,15 @@ ghost use Rattle.ready_indexes.specs.KeyCauses.{KeysAreGuarded};
 use crate::rest::at_rest;
 use crate::shut_live::ShutLive;
 use crate::{Pair, Table};
-use build_scan::{TableScan, reset_all};
-use building::PagePutter;
 use heap_table::Heap;
 use keybytes::{Fault, KeySpec, Rid, Row};
+use page_workers::PagePutter;
 use ready_indexes::ReadyIndexes;
 use side_file::{Entry, SideFile};
 use std::alloc::Global;
 use std::collections::vec_deque::Iter;
 use std::marker::{Model, PhantomData};
+use table_scan::{TableScan, reset_all};
 
 /// A table, its ready indexes, each of which has the pairs of the rows that stand and that it takes, which pages the running build copied, and the
 /// ends of the rings that the table puts into: all that a lock has to keep once threads share it. What stands beside it is a
@@ -64,11 +64,11 @@ impl<T: Table> Drop for Live<T> {
 
 impl<T: Table> Model for Live<T> {
     ghost use Rattle.ready_indexes.specs.Following.{AllFollow, indexes_of};
-    ghost use Rattle.build_halves.specs.Builds.{LiveValue};
-    ghost use Rattle.build_scan.specs.TableBuilds.{BuildFollows};
-    ghost use Rattle.build_work.specs.Rings.{all_sent, AreOfBuilds};
-    ghost use Rattle.build_halves.specs.Rings.{ArePutEnds, PagesFollow};
-    ghost use Rattle.build_scan.specs.SideFiles.{EntriesAreOfBuilds, SidesFollow, put_ends};
+    ghost use Rattle.live_lemmas.specs.Builds.{LiveValue};
+    ghost use Rattle.table_scan.specs.TableBuilds.{BuildFollows};
+    ghost use Rattle.building.specs.Rings.{all_sent, AreOfBuilds};
+    ghost use Rattle.live_lemmas.specs.Rings.{ArePutEnds, PagesFollow};
+    ghost use Rattle.table_scan.specs.SideFiles.{EntriesAreOfBuilds, SidesFollow, put_ends};
 
     ghost Value = { LiveValue };
 

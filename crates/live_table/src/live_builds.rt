@@ -4,27 +4,27 @@ ghost use Rattle.std.specs.List.{AllZip, list_all, list_any};
 ghost use Rattle.keybytes.specs.Answered.{Answered};
 ghost use Rattle.side_file.specs.Ends.{PutEnd};
 ghost use Rattle.heap_table.specs.Pages.{pages_written};
-ghost use Rattle.building.specs.TakeEnd.{PutEndLooked};
-ghost use Rattle.building.specs.declared.copied.Copied.{Copied};
-ghost use Rattle.build_work.specs.BuildingValue.{BuildingValue, given_up, intakes};
-ghost use Rattle.build_halves.specs.Builds.{core_state, put_refusal, page_refusal, StandsBeside};
-ghost use Rattle.build_halves.specs.Putting.{IsPutTo};
+ghost use Rattle.page_workers.specs.TakeEnd.{PutEndLooked};
+ghost use Rattle.page_workers.specs.declared.copied.Copied.{Copied};
+ghost use Rattle.building.specs.BuildingValue.{BuildingValue, given_up, intakes};
+ghost use Rattle.live_lemmas.specs.Builds.{core_state, put_refusal, page_refusal, StandsBeside};
+ghost use Rattle.live_lemmas.specs.Putting.{IsPutTo};
 ghost use Rattle.build_events.specs.CoreState.{abandoned};
 ghost use Rattle.build_events.specs.Ranges.{next_page};
 ghost use Rattle.scan_range.specs.Dealings.{dealing_refusal, dealt_ends};
-ghost use Rattle.build_work.specs.Lent.{CanLend};
-ghost use Rattle.build_work.specs.Rings.{all_free, begun_on};
+ghost use Rattle.building.specs.Lent.{CanLend};
+ghost use Rattle.building.specs.Rings.{all_free, begun_on};
 ghost use Rattle.build_events.specs.BuildSteps.{Starts, Scans, OnBuild, start_refusal, counts_fit, fenced};
 ghost use Rattle.keybytes.specs.Schemas.{same_kinds};
 
 use crate::parts::{INDEXES_MAX, WORKERS_MAX};
 use crate::{Building, Live, Plan, Table};
-use build_scan::TableScan;
-use build_work::{Work, prepare};
-use building::Copied;
+use building::{Work, prepare};
 use heap_table::PageImage;
 use keybytes::{Fault, KeySpec, Schema, copied_specs};
+use page_workers::Copied;
 use run_spool::Spool;
+use table_scan::TableScan;
 
 /// The most ready indexes of a table, counted with those that a plan is to build.
 const READY_MAX: usize = 32;

@@ -1,9 +1,9 @@
 //! Whether what stands beside a table is of the build that runs on it.
 ghost use Rattle.std.specs.Prelude.{◌≡◌, ◌<◌, ◌↔◌, IsTrue, length, true, false, None, Some, IfErr, IfSome, OnOk, MatchResult};
 ghost use Rattle.build_events.specs.BuildSteps.{OnBuild};
-ghost use Rattle.build_halves.specs.Builds.{core_state, SideIsLooked, SeesSideAt, StandsBeside};
-ghost use Rattle.build_halves.specs.Switching.{IsUnspoiled, IsFedAt, IsOfBuild, IsPartOf, IsScannedWhole, IsTakenIn, SidesAreLooked};
-ghost use Rattle.build_halves.specs.Switching.{early_cause, HaveAll, IsOnlyLookedAt, KeepsOut};
+ghost use Rattle.live_lemmas.specs.Builds.{core_state, SideIsLooked, SeesSideAt, StandsBeside};
+ghost use Rattle.live_lemmas.specs.Switching.{IsUnspoiled, IsFedAt, IsOfBuild, IsPartOf, IsScannedWhole, IsTakenIn, SidesAreLooked};
+ghost use Rattle.live_lemmas.specs.Switching.{early_cause, HaveAll, IsOnlyLookedAt, KeepsOut};
 
 use crate::{Building, Live, Table};
 use keybytes::{Fault, KeySpec};

@@ -1,10 +1,10 @@
 //! The side-files of a build, one for each index: their entries go into their rings, and from there to the indexes.
 ghost use Rattle.std.specs.Prelude.{◌≡◌, ◌<◌, None, Some, slice_get, IfSome, IfOk, IfErr, OnOk, OnErr};
-ghost use Rattle.build_work.specs.BuildingValue.{BuildingValue};
-ghost use Rattle.build_halves.specs.Builds.{core_state, cause_of, StandsBeside, SideIsLooked, SeesSideAt, HasFed};
-ghost use Rattle.build_halves.specs.Putting.{SendsOn};
-ghost use Rattle.build_scan.specs.TableBuilds.{BuildFollows};
-ghost use Rattle.build_scan.specs.SideFiles.{AreFedEntries, side_refusal};
+ghost use Rattle.building.specs.BuildingValue.{BuildingValue};
+ghost use Rattle.live_lemmas.specs.Builds.{core_state, cause_of, StandsBeside, SideIsLooked, SeesSideAt, HasFed};
+ghost use Rattle.live_lemmas.specs.Putting.{SendsOn};
+ghost use Rattle.table_scan.specs.TableBuilds.{BuildFollows};
+ghost use Rattle.table_scan.specs.SideFiles.{AreFedEntries, side_refusal};
 ghost use Rattle.build_events.specs.BuildSteps.{Feeds, Applies, AppliesSome};
 ghost use Rattle.build_events.specs.declared.event.Event.{Event};
 

@@ -5,12 +5,12 @@ ghost use Rattle.heap_log.specs.declared.record.LogRec.{LogRec};
 ghost use Rattle.heap_table.specs.HeapState.{HeapState, after_switch, busy_txns};
 ghost use Rattle.keybytes.specs.Keys.{are_key_columns};
 ghost use Rattle.heap_table.specs.Pages.{KeepsRows};
-ghost use Rattle.build_halves.specs.Builds.{core_state, cause_of, StandsBeside};
-ghost use Rattle.building.specs.TakeEnd.{PutEndLooked};
-ghost use Rattle.build_halves.specs.Putting.{SendsAll, SendsNext, SendsOn};
-ghost use Rattle.build_halves.specs.Switching.{HaveAll, IsPartOf, RefusesSwitch};
-ghost use Rattle.build_halves.specs.CatchingUp.{MayCatchUp, IndexIsFurther, IsDoneIndex, left_at, ready_of};
-ghost use Rattle.build_work.specs.Verdicts.{its_verdict};
+ghost use Rattle.live_lemmas.specs.Builds.{core_state, cause_of, StandsBeside};
+ghost use Rattle.page_workers.specs.TakeEnd.{PutEndLooked};
+ghost use Rattle.live_lemmas.specs.Putting.{SendsAll, SendsNext, SendsOn};
+ghost use Rattle.live_lemmas.specs.Switching.{HaveAll, IsPartOf, RefusesSwitch};
+ghost use Rattle.live_lemmas.specs.CatchingUp.{MayCatchUp, IndexIsFurther, IsDoneIndex, left_at, ready_of};
+ghost use Rattle.building.specs.Verdicts.{its_verdict};
 ghost use Rattle.ready_indexes.specs.Following.{AllFollow, MayFollow, indexes_of};
 ghost use Rattle.build_events.specs.BuildSteps.{Switches, OnBuild, CatchesUp, busy_refusal};
 ghost use Rattle.build_events.specs.Steps.{IsRefused};
@@ -19,8 +19,7 @@ ghost use Rattle.build_events.specs.Workers.{all_unapplied};
 ghost use Rattle.build_events.specs.declared.event.Event.{Event};
 
 use crate::{Building, Live, Switched, Table};
-use build_scan::TableScan;
-use build_work::IndexWork;
+use building::IndexWork;
 use heap_log::{LogRec, Outcome, Verdicts};
 use heap_table::Heap;
 use keybytes::{Fault, KeySpec};
@@ -28,6 +27,7 @@ use ready_indexes::ReadyIndexes;
 use run_spool::Spool;
 use side_file::RING_ENTRIES;
 use std::alloc::Global;
+use table_scan::TableScan;
 use unique_verdict::Verdict;
 
 /// The most entries of all side-files that a switch applies.

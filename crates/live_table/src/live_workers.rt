@@ -1,23 +1,23 @@
 //! The steps of a build in which its workers have a part, with both ends of their rings at hand.
 ghost use Rattle.std.specs.Prelude.{ℕ, ◌≡◌, ◌++◌, ◌<◌, ◌≤◌, ◌+◌, All, length, slice_get, true, false, Some, None, IsSome, IfSome, IfOk, IfErr, OnOk, OnErr, MatchOption, MatchResult};
 ghost use Rattle.side_file.specs.Ends.{PutEnd};
-ghost use Rattle.build_work.specs.Keeping.{KeepsLaws};
-ghost use Rattle.building.specs.declared.copied.Copied.{Copied};
-ghost use Rattle.build_halves.specs.Builds.{core_state, cause_of, put_refusal, HasLookedAtRings, SeesRing, IsLoading, MayWork, MayLoad, StandsBeside};
-ghost use Rattle.build_halves.specs.Switching.{early_cause, HandsOver, HaveAll, IsKeptOut, IsLowestUnsealed, IsOnlyLookedAt, IsPartOf};
-ghost use Rattle.build_halves.specs.Putting.{PagesAreLooked};
-ghost use Rattle.build_work.specs.Working.{CanLoad, HasHandedOver};
-ghost use Rattle.build_halves.specs.Turns.{HasTurn, IsTurnRefused};
-ghost use Rattle.build_work.specs.Rings.{all_sent, AreSealed, FirstAreSealed, HasSeenAll, IsUnsealed};
-ghost use Rattle.build_halves.specs.Rings.{PagesFollow};
+ghost use Rattle.building.specs.Keeping.{KeepsLaws};
+ghost use Rattle.page_workers.specs.declared.copied.Copied.{Copied};
+ghost use Rattle.live_lemmas.specs.Builds.{core_state, cause_of, put_refusal, HasLookedAtRings, SeesRing, IsLoading, MayWork, MayLoad, StandsBeside};
+ghost use Rattle.live_lemmas.specs.Switching.{early_cause, HandsOver, HaveAll, IsKeptOut, IsLowestUnsealed, IsOnlyLookedAt, IsPartOf};
+ghost use Rattle.live_lemmas.specs.Putting.{PagesAreLooked};
+ghost use Rattle.building.specs.Working.{CanLoad, HasHandedOver};
+ghost use Rattle.live_lemmas.specs.Turns.{HasTurn, IsTurnRefused};
+ghost use Rattle.building.specs.Rings.{all_sent, AreSealed, FirstAreSealed, HasSeenAll, IsUnsealed};
+ghost use Rattle.live_lemmas.specs.Rings.{PagesFollow};
 ghost use Rattle.build_events.specs.BuildSteps.{Loads};
 ghost use Rattle.build_events.specs.Steps.{spoiled_by};
 ghost use Rattle.build_events.specs.Workers.{index_at};
 ghost use Rattle.build_events.specs.declared.event.Event.{Event};
 
 use crate::{Building, Live, Table};
-use building::{RING_IMAGES, Turn};
 use keybytes::Fault;
+use page_workers::{RING_IMAGES, Turn};
 use run_spool::Spool;
 
 impl<T: Table> Live<T> {

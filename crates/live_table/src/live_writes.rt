@@ -4,9 +4,9 @@ ghost use Rattle.keybytes.specs.Answered.{Answered};
 ghost use Rattle.keybytes.specs.Rows.{row_bytes};
 ghost use Rattle.heap_table.specs.Calls.{Begins, Inserts, Updates, Deletes, Undoes, Commits};
 ghost use Rattle.heap_table.specs.HeapState.{begin_refusal, insert_place, txn_refusal, delete_refusal, undo_refusal};
-ghost use Rattle.build_work.specs.BuildingValue.{BuildingValue};
-ghost use Rattle.build_halves.specs.Builds.{StandsBeside};
-ghost use Rattle.build_halves.specs.Putting.{KeepsRings};
+ghost use Rattle.building.specs.BuildingValue.{BuildingValue};
+ghost use Rattle.live_lemmas.specs.Builds.{StandsBeside};
+ghost use Rattle.live_lemmas.specs.Putting.{KeepsRings};
 ghost use Rattle.build_events.specs.Steps.{row_refusal, change_refusal, OnHeap, OnRows};
 
 use crate::{Live, Table, changes};

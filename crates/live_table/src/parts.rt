@@ -1,12 +1,12 @@
 ghost use Rattle.std.specs.Prelude.{◌≡◌, [], All, None, length, map, IfOk, IfErr};
-ghost use Rattle.building.specs.TakeEnd.{take_end};
-ghost use Rattle.build_work.specs.Rings.{put_rings, take_rings, all_sent, AreOfBuilds};
-ghost use Rattle.build_scan.specs.SideFiles.{side_rings, taken_rings, put_ends};
+ghost use Rattle.page_workers.specs.TakeEnd.{take_end};
+ghost use Rattle.building.specs.Rings.{put_rings, take_rings, all_sent, AreOfBuilds};
+ghost use Rattle.table_scan.specs.SideFiles.{side_rings, taken_rings, put_ends};
 
 use crate::{Ends, Live, Table};
-use building::{Intake, PagePutter, page_ring};
 use heap_table::Heap;
 use keybytes::Fault;
+use page_workers::{Intake, PagePutter, page_ring};
 use rtrb::Consumer;
 use side_file::{Entry, SideFile};
 use std::alloc::Global;
@@ -42,15 +42,15 @@ impl Drop for Parts {
 }
 
 impl Model for Parts {
-    ghost use Rattle.build_halves.specs.Builds.{PartsValue};
+    ghost use Rattle.live_lemmas.specs.Builds.{PartsValue};
 
     ghost Value = { PartsValue };
 
     ghost use Rattle.std.specs.Prelude.{◌≡◌, [], All, map};
-    ghost use Rattle.building.specs.TakeEnd.{take_end};
-    ghost use Rattle.build_scan.specs.SideFiles.{put_ends, side_rings};
-    ghost use Rattle.build_work.specs.Rings.{put_rings, all_sent, AreTakeEnds, AreOfBuilds};
-    ghost use Rattle.build_halves.specs.Rings.{ArePutEnds};
+    ghost use Rattle.page_workers.specs.TakeEnd.{take_end};
+    ghost use Rattle.table_scan.specs.SideFiles.{put_ends, side_rings};
+    ghost use Rattle.building.specs.Rings.{put_rings, all_sent, AreTakeEnds, AreOfBuilds};
+    ghost use Rattle.live_lemmas.specs.Rings.{ArePutEnds};
 
     ghost view = { λ parts. record {
       heap = parts.heap.state;

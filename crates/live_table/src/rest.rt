@@ -5,7 +5,7 @@ ghost use Rattle.heap_table.specs.Pages.{pages_written};
 ghost use Rattle.keybytes.specs.Pairs.{HaveKeysOf, AreInColumnOrder, pair_with};
 ghost use Rattle.heap_table.specs.TablePairs.{pair_of, pairs_at_rest};
 ghost use Rattle.build_events.specs.CoreState.{after_visits};
-ghost use Rattle.build_halves.specs.Visits.{IsVisited};
+ghost use Rattle.live_lemmas.specs.Visits.{IsVisited};
 
 use crate::Pair;
 use heap_table::Heap;

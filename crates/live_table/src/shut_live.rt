@@ -1,15 +1,15 @@
 ghost use Rattle.std.specs.Prelude.{◌≡◌};
-ghost use Rattle.build_scan.specs.SideFiles.{side_rings};
-ghost use Rattle.build_work.specs.Rings.{put_rings};
+ghost use Rattle.table_scan.specs.SideFiles.{side_rings};
+ghost use Rattle.building.specs.Rings.{put_rings};
 
 use crate::{Live, Table};
-use build_scan::TableScan;
-use building::PagePutter;
 use heap_table::Heap;
+use page_workers::PagePutter;
 use ready_indexes::ReadyIndexes;
 use side_file::SideFile;
 use std::alloc::Global;
 use std::marker::{Model, PhantomData};
+use table_scan::TableScan;
 
 /// A [`Live`] whose name was taken off, for whoever can't keep a type. Its ends tell which rings a name has to be of for [`ShutLive::open`].
 pub struct ShutLive {
@@ -38,11 +38,11 @@ impl Drop for ShutLive {
 
 impl Model for ShutLive {
     ghost use Rattle.ready_indexes.specs.Following.{AllFollow, indexes_of};
-    ghost use Rattle.build_halves.specs.Builds.{LiveValue};
-    ghost use Rattle.build_scan.specs.TableBuilds.{BuildFollows};
-    ghost use Rattle.build_work.specs.Rings.{all_sent, put_rings, AreOfBuilds};
-    ghost use Rattle.build_halves.specs.Rings.{ArePutEnds, PagesFollow};
-    ghost use Rattle.build_scan.specs.SideFiles.{EntriesAreOfBuilds, SidesFollow, put_ends, side_rings};
+    ghost use Rattle.live_lemmas.specs.Builds.{LiveValue};
+    ghost use Rattle.table_scan.specs.TableBuilds.{BuildFollows};
+    ghost use Rattle.building.specs.Rings.{all_sent, put_rings, AreOfBuilds};
+    ghost use Rattle.live_lemmas.specs.Rings.{ArePutEnds, PagesFollow};
+    ghost use Rattle.table_scan.specs.SideFiles.{EntriesAreOfBuilds, SidesFollow, put_ends, side_rings};
 
     ghost Value = { LiveValue };
 

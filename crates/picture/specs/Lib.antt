@@ -1,2 +1,1 @@
-pub mod Escapes
-pub mod Stacks
+pub mod Sights

@@ -1,34 +1,26 @@
-//! Pictures of what happened to a table, record by record, while indexes were built on it.
+//! The picture of a script's run.
 //!
-//! A [`Timeline`] says what is to be seen: [`Row`]s one below the other, a record each, and [`Lane`]s side by side, in which the rows have their
-//! [`Mark`]s. [`svg`] draws it. Nothing runs here: the layer above makes the timeline of a script.
+//! [`picture`] runs a script as `replay` does, one command after the other in one thread, looks at the table before and behind each, and draws what
+//! it saw. [`Story`] is what it saw so far; [`Sight`] is what is known of the build that runs.
 #![tactic(auto)]
 
-mod drawing;
-mod escape;
-mod fitting;
-mod gain;
-mod labels;
-mod lane;
-mod layout;
-mod legend;
-mod mark;
-mod pen;
-mod picture_error;
-mod row;
-mod span;
-mod stack;
-mod style;
-mod timeline;
+mod deed;
+mod failure;
+mod gains;
+mod lanes;
+mod lasting;
+mod record_text;
+mod records;
+mod run;
+mod sides;
+mod sight;
+mod story;
+mod teller;
+mod telling;
+mod txn_lane;
+mod words;
 
-pub use drawing::svg;
-pub use escape::push_escaped;
-pub use fitting::{Fitted, cut_to};
-pub use gain::{Gain, GainKind};
-pub use lane::{Lane, LaneKind};
-pub use mark::{Mark, MarkKind, Side};
-pub use picture_error::PictureError;
-pub use row::{Row, RowKind};
-pub use span::{Span, SpanKind};
-pub use stack::Stack;
-pub use timeline::{ROWS_MAX, Timeline};
+pub use failure::Failure;
+pub use run::{picture, title};
+pub use sight::Sight;
+pub use story::Story;

@@ -4,8 +4,8 @@ use denote.Ref.{NamedLft}
 use denote.Param.Send.{IsSend, IsSync, sendable}
 use denote.Param.SendFields.{declared_sync}
 use Rattle.std.proofs.Crossing.{crosses}
-use Rattle.known_log.specs.declared.named.Named as named
-use Rattle.building.specs.declared.table.Table as table
+use Rattle.log_prefixes.specs.declared.named.Named as named
+use Rattle.page_workers.specs.declared.table.Table as table
 use Rattle.crew.specs.declared.opened.Opened as opened
 use Rattle.crew.proofs.Crosses.{table_sync}
 use Rattle.race.specs.contracts.watching.Watching as Watching

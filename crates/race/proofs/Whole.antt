@@ -13,7 +13,7 @@ use Rattle.race.specs.Resting.{AreCheckedBehind}
 use Rattle.race.specs.Rows.{HasPutRows}
 use Rattle.race.specs.Sessions.{AreSessionsOf, line_count, script_count}
 use Rattle.race.specs.declared.outcome.Outcome.{Outcome}
-use Rattle.spool_choice.specs.declared.choice.SpoolChoice.{SpoolChoice}
+use Rattle.run_spool.specs.declared.choice.SpoolChoice.{SpoolChoice}
 use Rattle.race.specs.declared.planned.Planned.{Planned}
 use Rattle.race.specs.declared.session_script.SessionScript.{SessionScript}
 use Rattle.race.specs.declared.race_report.RaceReport.{RaceReport}

@@ -11,8 +11,8 @@ use Rattle.leased_core.specs.Leasing.{AreOf, new_spools, spools_of_kinds, stake_
 use Rattle.replay.specs.Limits.{is_in_limits}
 use Rattle.replay.specs.Listings.{ListsShared, key_spec_of}
 use Rattle.script.specs.declared.race.build.Build.{Build}
-use Rattle.spool_choice.specs.Choices.{kinds_from}
-use Rattle.spool_choice.specs.declared.choice.SpoolChoice.{SpoolChoice}
+use Rattle.run_spool.specs.Choices.{kinds_from}
+use Rattle.run_spool.specs.declared.choice.SpoolChoice.{SpoolChoice}
 use Rattle.spool_kinds.specs.Kinds.{kind_of}
 use Rattle.race.specs.declared.outcome.Outcome.{Outcome}
 use Rattle.race.specs.declared.planned.Planned.{Planned}

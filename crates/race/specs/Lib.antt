@@ -3,3 +3,4 @@ pub mod Races
 pub mod Resting
 pub mod Rows
 pub mod Sessions
+pub mod Commands

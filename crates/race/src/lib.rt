@@ -19,6 +19,7 @@ mod resting;
 mod rows;
 mod run;
 mod running;
+mod session;
 mod session_line;
 mod session_script;
 mod splitting;

@@ -5,8 +5,8 @@ use builder_core::Plan;
 use keybytes::{Fault, Schema};
 use leased_core::Leases;
 use replay::{is_in_limits, key_specs};
+use run_spool::SpoolChoice;
 use script::Build;
-use spool_choice::SpoolChoice;
 use spool_kinds::SpoolOfKind;
 use std::alloc::Global;
 

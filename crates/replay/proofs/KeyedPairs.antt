@@ -4,7 +4,7 @@ use Rattle.std.specs.List.{All, slice_get}
 use Rattle.std.specs.List.{AllZip}
 use Rattle.keybytes.specs.Keys.{KeySpecValue, IsKeyOf}
 use Rattle.build_events.specs.CoreState.{BuildState}
-use Rattle.build_scan.specs.SideFiles.{HaveEntryKeys}
+use Rattle.table_scan.specs.SideFiles.{HaveEntryKeys}
 use Rattle.build_events.specs.BuildSteps.{OnBuild}
 use Rattle.side_file.specs.declared.entry.Entry.{Entry}
 use Rattle.keybytes.specs.declared.pair.Pair.{Pair}

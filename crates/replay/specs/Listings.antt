@@ -22,7 +22,7 @@ use Rattle.replay.specs.declared.answer.Answer.{Answer}
 use Rattle.replay.specs.declared.answer.Answer.TheVariants as answer
 use Rattle.replay.specs.declared.pair_line.PairLine.{PairLine}
 use Rattle.replay.specs.declared.entry_line.EntryLine.{EntryLine}
-use Rattle.build_scan.specs.SideFiles.{AreEntriesLeft, side_refusal}
+use Rattle.table_scan.specs.SideFiles.{AreEntriesLeft, side_refusal}
 use Rattle.build_events.specs.BuildSteps.{OnBuild}
 use Rattle.side_file.specs.declared.entry.Entry.{Entry}
 use Rattle.script.specs.declared.spec.Spec.{Spec}

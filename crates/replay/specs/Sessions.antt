@@ -6,8 +6,8 @@ use Rattle.keybytes.specs.declared.fault.Fault.{Fault}
 use Rattle.heap_table.specs.HeapState.{HeapState, empty_heap}
 use Rattle.heap_table.specs.Limits.{pages_most}
 use Rattle.build_events.specs.CoreState.{CoreState, LiveState, opening}
-use Rattle.spool_choice.specs.declared.choice.SpoolChoice.{SpoolChoice}
-use Rattle.spool_choice.specs.declared.choice.SpoolChoice.TheVariants.{Plain}
+use Rattle.run_spool.specs.declared.choice.SpoolChoice.{SpoolChoice}
+use Rattle.run_spool.specs.declared.choice.SpoolChoice.TheVariants.{Plain}
 use Rattle.script.specs.declared.command.Command.{Command}
 use Rattle.script.specs.declared.command.Command.TheVariants.{Row, Begin, Insert, Update, Delete, Undo, Commit, Get, Start as StartCommand, Spools, Scan, Digest}
 use Rattle.script.specs.declared.command.Command.TheVariants.{Seal, Load, Feed, Apply, Fence, Switch, Abandon, Side, Pairs, Rest}

@@ -6,7 +6,7 @@ ghost use Rattle.replay.specs.Answers.{Happens, answer_of};
 ghost use Rattle.replay.specs.Sessions.{state_of, Answers, IsNew, Runs};
 ghost use Rattle.leased_core.specs.Leasing.{KeepsBuild};
 ghost use Rattle.replay.specs.Limits.{is_refusal};
-ghost use Rattle.build_scan.specs.SideFiles.{side_refusal};
+ghost use Rattle.table_scan.specs.SideFiles.{side_refusal};
 ghost use Rattle.replay.specs.declared.answer.Answer.{Answer};
 ghost use Rattle.replay.specs.Listings.{key_spec_of, spec_refusal, ListsLeft};
 ghost use Rattle.replay.specs.Plans.{specs_refusal};
@@ -22,8 +22,8 @@ use builder_core::{Core, Event, Plan, Reply, Table};
 use heap_log::{Outcome, Verdicts};
 use keybytes::{Cell, Fault, KeySpec, Rid, Row};
 use leased_core::LeasedCore;
+use run_spool::SpoolChoice;
 use script::{Command, Label, Spec, Start};
-use spool_choice::SpoolChoice;
 use spool_kinds::SpoolOfKind;
 use std::alloc::Global;
 

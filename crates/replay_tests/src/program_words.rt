@@ -2,9 +2,9 @@
 
 use clap::Error;
 use clap::error::ErrorKind;
+use command_line::{Choice, IndexWord, Task, read};
 use std::alloc::Global;
 use std::test::Fail;
-use words::{Choice, IndexWord, Task, read};
 
 /// Commands with their tasks.
 static TASKS: [(&str, Task); 3] = [

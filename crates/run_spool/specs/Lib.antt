@@ -5,3 +5,4 @@ pub mod Pages
 pub mod PlainPages
 pub mod Runs
 pub mod Spools
+pub mod Choices

@@ -5,9 +5,9 @@ ghost use Rattle.run_spool.specs.PagedSpools.{new_spool};
 ghost use Rattle.run_maker.specs.Making.{AreReady};
 
 use crate::table::COLUMN;
-use building::{Copied, Intake, PagePutter, page_ring};
 use heap_table::{Heap, PageImage};
 use keybytes::{Cell, Fault, Key, KeySpec, Kind, Rid, Row, Schema};
+use page_workers::{Copied, Intake, PagePutter, page_ring};
 use run_maker::{Maker, StdSort};
 use run_spool::{PlainSpool, Spool};
 use spool_ledger::Pool;

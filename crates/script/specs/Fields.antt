@@ -16,8 +16,8 @@ use Rattle.keybytes.specs.declared.when.When.TheVariants.{Equal, Less, IsNull}
 use Rattle.scan_range.specs.declared.dealing.Dealing.{Dealing}
 use Rattle.scan_range.specs.declared.dealing.Dealing.TheVariants.{Ends, Even}
 use Rattle.script.specs.declared.spec.Spec.{Spec}
-use Rattle.spool_choice.specs.declared.choice.SpoolChoice.{SpoolChoice}
-use Rattle.spool_choice.specs.declared.choice.SpoolChoice.TheVariants.{Plain, Prefix, Mixed}
+use Rattle.run_spool.specs.declared.choice.SpoolChoice.{SpoolChoice}
+use Rattle.run_spool.specs.declared.choice.SpoolChoice.TheVariants.{Plain, Prefix, Mixed}
 
 -- one or more characters, all of them decimal digits
 abbrev pub is_digits : List ℕ → Bool

@@ -12,7 +12,7 @@ use Rattle.script.specs.declared.race.line.RaceLine.{RaceLine}
 use Rattle.script.specs.declared.race.name.RaceName.{RaceName}
 use Rattle.script.specs.declared.race.name.RaceName.TheVariants as name
 use Rattle.script.specs.declared.race.session_step.SessionStep.{SessionStep}
-use Rattle.spool_choice.specs.declared.choice.SpoolChoice.{SpoolChoice}
+use Rattle.run_spool.specs.declared.choice.SpoolChoice.{SpoolChoice}
 use Rattle.script.specs.declared.table.Table.{Table}
 
 pub record RaceDraftValue : Type 0 where

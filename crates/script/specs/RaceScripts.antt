@@ -12,8 +12,8 @@ use Rattle.script.specs.declared.race.line.RaceLine.{RaceLine}
 use Rattle.script.specs.declared.race.line.RaceLine.TheVariants.{PassedOver, Table as TableLine, Row, Spools, Build as BuildLine, Go, In}
 use Rattle.script.specs.declared.race.script.RaceScript.{RaceScript}
 use Rattle.script.specs.declared.race.session_step.SessionStep.{SessionStep}
-use Rattle.spool_choice.specs.declared.choice.SpoolChoice.{SpoolChoice}
-use Rattle.spool_choice.specs.declared.choice.SpoolChoice.TheVariants.{Plain}
+use Rattle.run_spool.specs.declared.choice.SpoolChoice.{SpoolChoice}
+use Rattle.run_spool.specs.declared.choice.SpoolChoice.TheVariants.{Plain}
 use Rattle.script.specs.declared.table.Table.{Table}
 
 -- a record spells a line where its fields are text and ask for that line

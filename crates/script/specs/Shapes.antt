@@ -12,7 +12,7 @@ use Rattle.scan_range.specs.declared.dealing.Dealing.{Dealing}
 use Rattle.script.specs.declared.part.Part.{Part}
 use Rattle.script.specs.declared.part.Part.TheVariants as part
 use Rattle.script.specs.declared.spec.Spec.{Spec}
-use Rattle.spool_choice.specs.declared.choice.SpoolChoice.{SpoolChoice}
+use Rattle.run_spool.specs.declared.choice.SpoolChoice.{SpoolChoice}
 
 -- how the names of commands are written
 abbrev pub written : CommandName → List ℕ

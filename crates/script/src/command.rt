@@ -1,6 +1,6 @@
 use crate::{Label, Spec, Start};
 use keybytes::{Cell, Rid};
-use spool_choice::SpoolChoice;
+use run_spool::SpoolChoice;
 
 /// A line of a script that is run on the table.
 #[derive(Drop)]

@@ -8,7 +8,7 @@ ghost use Rattle.keybytes.specs.declared.rid.Rid.{Rid as RidValue};
 ghost use Rattle.keybytes.specs.declared.when.When.{When as WhenValue};
 ghost use Rattle.scan_range.specs.declared.dealing.Dealing.{Dealing as DealingValue};
 ghost use Rattle.script.specs.declared.spec.Spec.{Spec as SpecValue};
-ghost use Rattle.spool_choice.specs.declared.choice.SpoolChoice.{SpoolChoice as SpoolChoiceValue};
+ghost use Rattle.run_spool.specs.declared.choice.SpoolChoice.{SpoolChoice as SpoolChoiceValue};
 ghost use Rattle.script.specs.declared.part.Part.TheVariants as part;
 ghost use Rattle.script.specs.Shapes.{Fit};
 ghost use Rattle.script.specs.Fields.{number_of, int_of, slot_of, texts, SpellEach, SpellsCell, SpellsDealing, SpellsKind, SpellsNumbers, SpellsRid};
@@ -18,8 +18,8 @@ ghost use Rattle.script.specs.Fields.{SpellsWhen};
 use crate::Spec;
 use crate::record_error::RecordError;
 use keybytes::{Cell, KeyCol, Kind, Rid, Text, When};
+use run_spool::SpoolChoice;
 use scan_range::Dealing;
-use spool_choice::SpoolChoice;
 use std::alloc::Global;
 
 /// How many sessions a race may have.

@@ -15,7 +15,7 @@ use crate::record_error::RecordError;
 use crate::{Command, CommandName, Label, Spec, Start, Table};
 use csv::StringRecord;
 use keybytes::{Cell, Rid};
-use spool_choice::SpoolChoice;
+use run_spool::SpoolChoice;
 use std::alloc::Global;
 
 /// What a record of a script asks for.

@@ -5,6 +5,7 @@
 //! hands the file and the standard streams in.
 #![tactic(auto)]
 
+use command_line::{Choice, IndexWords, Task};
 use race::ProgressLine;
 use replay::Status;
 use script::ScriptError;
@@ -14,7 +15,6 @@ use std::process::ExitCode;
 use std::sync::Wait;
 use std::thread::Threads;
 use std::{env, io};
-use words::{Choice, IndexWords, Task};
 
 fn main(rt: HostRuntime) -> ExitCode {
     let status = match given(&rt) {
@@ -35,7 +35,7 @@ fn given(rt: &HostRuntime) -> io::Result<Vec<String>> {
 
 /// Does what the words ask for, and answers the program's exit status.
 fn obey<A: Threads + Wait + Sync>(rt: &HostRuntime, threads: &A, words: &[String]) -> u8 {
-    match words::read(rt.alloc(), words) {
+    match command_line::read(rt.alloc(), words) {
         Ok(Choice::Script { task, script }) => run(rt, threads, task, script),
         Ok(Choice::Index(words)) => index(rt, threads, &words),
         Ok(Choice::Shell) => converse(rt),
@@ -81,7 +81,7 @@ fn run_on<A: Threads + Wait + Sync, R: Read + Drop>(
 /// Draws a script's run, under the last name of its path.
 fn draw<R: Read + Drop>(rt: &HostRuntime, path: &str, script: R) -> u8 {
     let (alloc, out, err) = (rt.alloc(), rt.stdout(), rt.stderr());
-    script_picture::picture(alloc, script_picture::title(path), script, out, err)
+    picture::picture(alloc, picture::title(path), script, out, err)
 }
 
 /// Runs a race, and shows how far its build is where that is asked for.

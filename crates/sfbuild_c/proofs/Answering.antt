@@ -6,9 +6,9 @@ use Rattle.build_events.specs.declared.event.Event.{Event}
 use Rattle.build_events.specs.declared.reply.Reply.{Reply}
 use Rattle.build_events.specs.declared.reply.Reply.TheVariants.{Refused}
 use Rattle.build_events.specs.CoreState.{CoreState}
-use Rattle.embedding.specs.Decisions.{Decides}
-use Rattle.embedding.specs.KeptTables.{DecidedValue, KeptValue}
-use Rattle.embedding.specs.Pieces.{DoesPiece, WorksToTheEnd}
+use Rattle.kept_table.specs.Decisions.{Decides}
+use Rattle.kept_table.specs.KeptTables.{DecidedValue, KeptValue}
+use Rattle.kept_table.specs.Pieces.{DoesPiece, WorksToTheEnd}
 use Rattle.sfbuild_c.specs.Building.{Advances}
 use Rattle.sfbuild_c.specs.Answers.{Answered, KeepsCause, OnTable, Steps}
 use Rattle.sfbuild_c.specs.Causes.{cause_of}

@@ -4,7 +4,7 @@ use Rattle.std.specs.List.{slice_get}
 use Rattle.std.proofs.lemmas.Bool.Decides.{nat_tests}
 use Rattle.std.proofs.lemmas.Option.{slice_get_cases}
 use Rattle.ready_indexes.specs.Indexes.{ReadyValue}
-use Rattle.embedding.specs.Lookups.{number_refusal}
+use Rattle.kept_table.specs.Lookups.{number_refusal}
 use Rattle.sfbuild_c.specs.Lookups.{pair_refusal}
 
 index_there :

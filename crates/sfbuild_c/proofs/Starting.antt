@@ -5,8 +5,8 @@ use Rattle.keybytes.specs.declared.kind.Kind.{Kind}
 use Rattle.build_events.specs.declared.plan.Plan.{Plan}
 use Rattle.build_events.specs.declared.reply.Reply.TheVariants.{Started}
 use Rattle.leased_core.specs.Leasing.{StartsOver}
-use Rattle.embedding.specs.KeptTables.{KeptValue}
-use Rattle.embedding.specs.Starts.{RefusesStart, start_limits_refusal}
+use Rattle.kept_table.specs.KeptTables.{KeptValue}
+use Rattle.kept_table.specs.Starts.{RefusesStart, start_limits_refusal}
 use Rattle.sfbuild_c.specs.Building.{IsAskedFor, RefusesBuild, StartsBuild}
 
 pub none_there : {A : Type 0} → (o : Option A) → is_some o ≡ false → o ≡ None

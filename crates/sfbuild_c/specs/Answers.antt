@@ -9,7 +9,7 @@ use Rattle.build_events.specs.declared.event.Event.{Event}
 use Rattle.build_events.specs.declared.reply.Reply.{Reply}
 use Rattle.build_events.specs.declared.reply.Reply.TheVariants.{Refused}
 use Rattle.leased_core.specs.Leasing.{WantedLeasedPage}
-use Rattle.embedding.specs.KeptTables.{KeptValue}
+use Rattle.kept_table.specs.KeptTables.{KeptValue}
 use Rattle.sfbuild_c.specs.Causes.{cause_of}
 use Rattle.sfbuild_c.specs.declared.session.Session.{Session}
 

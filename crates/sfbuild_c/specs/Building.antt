@@ -9,10 +9,10 @@ use Rattle.build_events.specs.declared.plan.Plan.{Plan}
 use Rattle.build_events.specs.Steps.{Step}
 use Rattle.build_events.specs.declared.reply.Reply.TheVariants.{Abandoned, Refused, Started}
 use Rattle.leased_core.specs.Leasing.{EndsBuild, StartsOver}
-use Rattle.embedding.specs.Decisions.{Decides, FailsToDecide, verdicts_in}
-use Rattle.embedding.specs.KeptTables.{KeptValue}
-use Rattle.embedding.specs.Pieces.{DoesPiece, FailsToAdvance, WorksToTheEnd}
-use Rattle.embedding.specs.Starts.{RefusesStart, start_limits_refusal}
+use Rattle.kept_table.specs.Decisions.{Decides, FailsToDecide, verdicts_in}
+use Rattle.kept_table.specs.KeptTables.{KeptValue}
+use Rattle.kept_table.specs.Pieces.{DoesPiece, FailsToAdvance, WorksToTheEnd}
+use Rattle.kept_table.specs.Starts.{RefusesStart, start_limits_refusal}
 use Rattle.sfbuild_c.specs.IndexBytes.{RefusesIndexes, SpellsIndexes}
 
 -- a build of the indexes that the bytes spell, with so many workers and ranges

@@ -8,8 +8,8 @@ use Rattle.keybytes.specs.declared.fault.Fault.TheVariants.{BadCount}
 use Rattle.keybytes.specs.declared.pair.Pair.{Pair}
 use Rattle.build_events.specs.BuildSteps.{cause_if}
 use Rattle.ready_indexes.specs.Indexes.{ReadyValue}
-use Rattle.embedding.specs.KeptTables.{KeptValue}
-use Rattle.embedding.specs.Lookups.{GoesOnWith, IsFirstKey, key_refusal, number_refusal}
+use Rattle.kept_table.specs.KeptTables.{KeptValue}
+use Rattle.kept_table.specs.Lookups.{GoesOnWith, IsFirstKey, key_refusal, number_refusal}
 use Rattle.sfbuild_c.specs.Buffers.{HandsOut}
 use Rattle.sfbuild_c.specs.Places.{place_of, rid_of}
 use Rattle.sfbuild_c.specs.declared.place.Place.{Place}

@@ -4,7 +4,7 @@ use Rattle.keybytes.specs.Faults.{RefusedFor}
 use Rattle.keybytes.specs.declared.fault.Fault.{Fault}
 use Rattle.keybytes.specs.declared.kind.Kind.{Kind}
 use Rattle.heap_table.specs.HeapState.{empty_heap, limits_refusal}
-use Rattle.embedding.specs.KeptTables.{KeptValue, new_table}
+use Rattle.kept_table.specs.KeptTables.{KeptValue, new_table}
 use Rattle.sfbuild_c.specs.Answers.{KeepsCause, TellsFault}
 use Rattle.sfbuild_c.specs.KindBytes.{RefusesKinds, SpellsKinds, SpellsTable}
 use Rattle.sfbuild_c.specs.declared.session.Session.{Session}

@@ -5,8 +5,8 @@ use Rattle.std.specs.Box.Ownership.{box_owns}
 use Rattle.std.specs.Prelude.{Option, Some, None}
 use Rattle.std.specs.declared.alloc.Global.{Global}
 use Rattle.std.specs.contracts.impls.GlobalAllocator.TheImpl.{ghosts}
-use Rattle.embedding.specs.KeptTables.{KeptValue}
-use Rattle.embedding.specs.contracts.kept.Kept.{the_row}
+use Rattle.kept_table.specs.KeptTables.{KeptValue}
+use Rattle.kept_table.specs.contracts.kept.Kept.{the_row}
 
 unfoldable pub table_owns : Global → Ptr → Option KeptValue → Fml
 table_owns alloc at None = ftrue

@@ -1,6 +1,6 @@
 -- What is told of a table, as C sees it: the place of a row, and how far a build is.
 use Rattle.keybytes.specs.declared.rid.Rid.{Rid}
-use Rattle.embedding.specs.declared.progress.Progress.{Progress}
+use Rattle.kept_table.specs.declared.progress.Progress.{Progress}
 use Rattle.sfbuild_c.specs.declared.place.Place.{Place}
 use Rattle.sfbuild_c.specs.declared.progress.ProgressOf.{ProgressOf}
 

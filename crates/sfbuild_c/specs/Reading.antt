@@ -10,7 +10,7 @@ use Rattle.heap_log.specs.Standing.{live_at}
 use Rattle.heap_table.specs.HeapState.{after_visit, row_missing}
 use Rattle.heap_table.specs.Pages.{pages_written}
 use Rattle.build_events.specs.CoreState.{with_heap}
-use Rattle.embedding.specs.KeptTables.{KeptValue}
+use Rattle.kept_table.specs.KeptTables.{KeptValue}
 use Rattle.sfbuild_c.specs.Buffers.{HandsOut}
 
 -- no fault refuses it

@@ -7,9 +7,9 @@ use Rattle.keybytes.specs.declared.fault.Fault.{Fault}
 use Rattle.keybytes.specs.declared.fault.Fault.TheVariants.{BadCount}
 use Rattle.heap_log.specs.declared.outcome.Outcome.{Outcome}
 use Rattle.heap_log.specs.declared.outcome.Outcome.TheVariants.{Ready, Shared}
-use Rattle.embedding.specs.Decisions.{AreSharedCells, IsNotShared, specs_in, verdicts_in}
-use Rattle.embedding.specs.KeptTables.{KeptValue}
-use Rattle.embedding.specs.Progresses.{all_unfed, index_count, pages_copied, pages_read}
+use Rattle.kept_table.specs.Decisions.{AreSharedCells, IsNotShared, specs_in, verdicts_in}
+use Rattle.kept_table.specs.KeptTables.{KeptValue}
+use Rattle.kept_table.specs.Progresses.{all_unfed, index_count, pages_copied, pages_read}
 use Rattle.sfbuild_c.specs.Buffers.{HandsOut}
 use Rattle.sfbuild_c.specs.Places.{no_place, place_of}
 use Rattle.sfbuild_c.specs.declared.progress.ProgressOf.{ProgressOf}

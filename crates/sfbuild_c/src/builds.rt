@@ -9,9 +9,9 @@ use crate::index_bytes::read_indexes;
 use crate::session::Session;
 use crate::status::{CLOSED, DONE};
 use builder_core::{Dealing, Event, Plan, Reply};
-use embedding::Kept;
+use kept_table::Kept;
 use keybytes::Fault;
-use spool_choice::SpoolChoice;
+use run_spool::SpoolChoice;
 use std::alloc::Global;
 
 /// Copies the next page of a range for a worker, and tells which.

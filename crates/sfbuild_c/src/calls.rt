@@ -11,7 +11,7 @@ use crate::held::Held;
 use crate::session::Session;
 use crate::status::CLOSED;
 use builder_core::{Event, Reply};
-use embedding::Kept;
+use kept_table::Kept;
 use keybytes::{Fault, Row};
 use std::alloc::Global;
 use std::mem;

@@ -1,8 +1,8 @@
 ghost use Rattle.std.specs.Prelude.{◌≡◌, Option, Some, None, is_some, true};
-ghost use Rattle.embedding.specs.KeptTables.{KeptValue};
+ghost use Rattle.kept_table.specs.KeptTables.{KeptValue};
 
 use crate::bare::Bare;
-use embedding::Kept;
+use kept_table::Kept;
 use std::alloc::Global;
 use std::marker::Model;
 

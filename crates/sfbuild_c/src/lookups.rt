@@ -2,7 +2,7 @@
 ghost use Rattle.std.specs.Prelude.{◌≡◌, None, take, slice_get, IfOk, IfErr, OnOk};
 ghost use Rattle.std.specs.Option.{option_map};
 ghost use Rattle.keybytes.specs.Faults.{RefusedFor};
-ghost use Rattle.embedding.specs.Lookups.{GoesOnWith, pair_of};
+ghost use Rattle.kept_table.specs.Lookups.{GoesOnWith, pair_of};
 ghost use Rattle.sfbuild_c.specs.Answers.{Answers, Tells, UnlessDone, UnlessTold};
 ghost use Rattle.sfbuild_c.specs.Lookups.{GoesOn, HandsOutKey, HasNoKey, IsKeyOfRow, RefusesKey, RefusesToGoOn, pair_refusal};
 ghost use Rattle.sfbuild_c.specs.Reading.{HasReady, RefusesNothing};
@@ -11,7 +11,7 @@ use crate::buffer::hand_out;
 use crate::place::Place;
 use crate::session::Session;
 use crate::status::{CLOSED, DONE, END};
-use embedding::Kept;
+use kept_table::Kept;
 use keybytes::{Fault, KEY_MAX, Key, Rid};
 use std::alloc::Global;
 

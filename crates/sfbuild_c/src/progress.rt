@@ -1,7 +1,7 @@
 ghost use Rattle.std.specs.Prelude.{◌≡◌};
 ghost use Rattle.sfbuild_c.specs.Places.{progress_of};
 
-use embedding::Progress;
+use kept_table::Progress;
 
 /// How far a build is, as C sees it.
 #[repr(C)]

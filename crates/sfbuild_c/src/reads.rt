@@ -8,7 +8,7 @@ use crate::buffer::hand_out;
 use crate::place::Place;
 use crate::session::Session;
 use crate::status::{CLOSED, DONE};
-use embedding::Kept;
+use kept_table::Kept;
 use keybytes::{Fault, Rid};
 use std::alloc::Global;
 

@@ -1,14 +1,14 @@
 //! The table itself: it is opened and closed.
 ghost use Rattle.std.specs.Prelude.{◌≡◌, None, Some, IfOk, IfErr, OnOk};
 ghost use Rattle.heap_table.specs.HeapState.{empty_heap, limits_refusal};
-ghost use Rattle.embedding.specs.KeptTables.{new_table};
+ghost use Rattle.kept_table.specs.KeptTables.{new_table};
 ghost use Rattle.sfbuild_c.specs.Opening.{Closes, IsNew, Opens, RefusesTable};
 
 use crate::kind_bytes::{check_kinds, read_kinds};
 use crate::session::Session;
 use crate::status::{CLOSED, DONE, OPENED};
-use embedding::Kept;
 use heap_table::Heap;
+use kept_table::Kept;
 use keybytes::{Fault, Kind, Schema};
 use std::alloc::Global;
 

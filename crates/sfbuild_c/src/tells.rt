@@ -2,7 +2,7 @@
 ghost use Rattle.std.specs.Prelude.{◌≡◌, slice_get, IfOk, IfErr};
 ghost use Rattle.keybytes.specs.Faults.{RefusedFor};
 ghost use Rattle.heap_log.specs.declared.outcome.Outcome.{Outcome};
-ghost use Rattle.embedding.specs.Decisions.{verdicts_in};
+ghost use Rattle.kept_table.specs.Decisions.{verdicts_in};
 ghost use Rattle.sfbuild_c.specs.Answers.{Answers, Tells, UnlessDone, UnlessTold};
 ghost use Rattle.sfbuild_c.specs.Reading.{RefusesNothing};
 ghost use Rattle.sfbuild_c.specs.Telling.{AreBytesOf, HasNoVerdict, IsSoFar, IsVerdictOf, TellsVerdict, as_verdict, verdict_refusal};
@@ -13,7 +13,7 @@ use crate::progress::ProgressOf;
 use crate::session::Session;
 use crate::status::{CLOSED, DONE};
 use crate::verdict::VerdictOf;
-use embedding::Kept;
+use kept_table::Kept;
 use keybytes::Fault;
 use std::alloc::Global;
 

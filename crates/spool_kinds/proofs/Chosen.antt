@@ -3,9 +3,9 @@ use Rattle.std.proofs.Common.{◌≡◌, ℕ, suc, ◌+◌, List, [], ◌∷◌,
 use Rattle.std.proofs.lemmas.List.{map-append}
 use Rattle.spool_ledger.specs.Accounts.{AccountValue}
 use Rattle.run_spool.specs.PagedSpools.{PagedSpoolValue, new_spool}
-use Rattle.spool_choice.specs.Choices.{kind_at, kinds_from}
-use Rattle.spool_choice.specs.declared.choice.SpoolChoice.{SpoolChoice}
-use Rattle.spool_choice.specs.declared.kind.SpoolKind.{SpoolKind}
+use Rattle.run_spool.specs.Choices.{kind_at, kinds_from}
+use Rattle.run_spool.specs.declared.choice.SpoolChoice.{SpoolChoice}
+use Rattle.run_spool.specs.declared.kind.SpoolKind.{SpoolKind}
 use Rattle.spool_kinds.specs.declared.either.SpoolOfKind.{SpoolOfKind}
 use Rattle.spool_kinds.specs.Kinds.{inside, kind_of}
 

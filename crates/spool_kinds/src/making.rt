@@ -2,14 +2,13 @@
 ghost use Rattle.std.specs.Prelude.{◌≡◌, All, map, length, IfOk, IfErr};
 ghost use Rattle.spool_ledger.specs.Accounts.{IsWhole};
 ghost use Rattle.run_spool.specs.PagedSpools.{new_spool as new_value};
-ghost use Rattle.spool_choice.specs.Choices.{kinds_from};
+ghost use Rattle.run_spool.specs.Choices.{kinds_from};
 ghost use Rattle.spool_kinds.specs.Kinds.{inside, kind_of};
 
 use crate::SpoolOfKind;
 use keybytes::Fault;
 use prefix_spool::PrefixSpool;
-use run_spool::PlainSpool;
-use spool_choice::{SpoolChoice, SpoolKind};
+use run_spool::{PlainSpool, SpoolChoice, SpoolKind};
 use spool_ledger::Account;
 use std::alloc::Global;
 

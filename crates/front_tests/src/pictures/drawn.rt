@@ -1,4 +1,4 @@
-use script_picture::picture;
+use picture::picture;
 use std::alloc::Global;
 use std::io::{Read, Write};
 use std::str;

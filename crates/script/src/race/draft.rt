@@ -8,7 +8,7 @@ use crate::race::cause::RaceCause;
 use crate::race::line::RaceLine;
 use crate::race::{Build, RaceName, RaceScript, SessionStep};
 use keybytes::Cell;
-use spool_choice::SpoolChoice;
+use run_spool::SpoolChoice;
 use std::alloc::Global;
 use std::marker::Model;
 

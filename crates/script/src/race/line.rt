@@ -4,7 +4,7 @@ ghost use Rattle.script.specs.RaceOrder.{name_of_line};
 use crate::Table;
 use crate::race::{Build, RaceName, SessionCommand};
 use keybytes::Cell;
-use spool_choice::SpoolChoice;
+use run_spool::SpoolChoice;
 
 /// What a record of a race script turned out to be.
 #[derive(Drop)]

@@ -15,7 +15,7 @@ use crate::race::{Build, RaceCheckError, RaceExplanation, SessionStep};
 use crate::{ScriptError, Table, read_text};
 use csv::StringRecord;
 use keybytes::Cell;
-use spool_choice::SpoolChoice;
+use run_spool::SpoolChoice;
 use std::alloc::Global;
 use std::io::Read;
 

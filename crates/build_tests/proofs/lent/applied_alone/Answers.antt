@@ -1,8 +1,8 @@
 use Rattle.std.proofs.Common.{◌≤◌, ◌<◌, rules, sym, subst, length}
 use Rattle.std.proofs.Math.Nat.{min-le_right}
-use Rattle.building.proofs.Places.{there_is}
-use Rattle.build_work.specs.BuildingValue.{WorkValue}
-use Rattle.build_work.proofs.Applying.{can_apply_seen}
+use Rattle.page_workers.proofs.Places.{there_is}
+use Rattle.building.specs.BuildingValue.{WorkValue}
+use Rattle.building.proofs.Applying.{can_apply_seen}
 use Rattle.build_tests.proofs.lent.applied_alone.Goals as goal
 
 pub apply-requires : goal.apply-requires

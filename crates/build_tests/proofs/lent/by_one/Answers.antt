@@ -1,7 +1,7 @@
 use Rattle.std.proofs.Common.{List, arith}
-use Rattle.building.specs.WorkerValue.{WorkerValue}
-use Rattle.building.proofs.Places.{at_index}
-use Rattle.build_work.proofs.LentBack.{all_back}
+use Rattle.page_workers.specs.WorkerValue.{WorkerValue}
+use Rattle.page_workers.proofs.Places.{at_index}
+use Rattle.building.proofs.LentBack.{all_back}
 use Rattle.build_tests.proofs.lent.by_one.Goals as goal
 
 pub returns : goal.returns

@@ -2,8 +2,8 @@ use Rattle.std.proofs.Common.{◌≡◌, ℕ, ◌+◌, ◌<◌, ◌∙◌, List,
 use Rattle.std.specs.Prelude.{is_some}
 use Rattle.std.proofs.lemmas.List.Sums.{count_by_more_no, count_by_more_yes}
 use Rattle.std.proofs.lemmas.Option.{get_or_from_slice_get}
-use Rattle.build_work.specs.BuildingValue.{IndexValue}
-use Rattle.building.proofs.Places.{there_is}
+use Rattle.building.specs.BuildingValue.{IndexValue}
+use Rattle.page_workers.proofs.Places.{there_is}
 use Rattle.builder_core.proofs.core_looks.loaded_of.Goals.{then-is_loaded, else-is_loaded}
 use Rattle.builder_core.proofs.core_looks.loaded_of.Goals as goal
 

@@ -1,6 +1,6 @@
 use Rattle.std.proofs.Common.{◌≡◌, take}
 use Rattle.std.specs.Prelude.{is_some, count_by}
-use Rattle.build_work.specs.BuildingValue.{IndexValue}
+use Rattle.building.specs.BuildingValue.{IndexValue}
 use Rattle.builder_core.proofs.core_looks.loaded_of.Given as goal
 
 abbrev pub invariant-loop-index : goal.invariant-loop-index

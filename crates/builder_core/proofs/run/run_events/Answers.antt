@@ -2,11 +2,11 @@ use Rattle.std.proofs.Common.{◌≡◌, ◌+◌, ◌++◌, ◌∷◌, [], List,
 use Rattle.std.proofs.lemmas.List.{take_all, take_more}
 use Rattle.build_events.specs.declared.event.Event.{Event}
 use Rattle.build_events.specs.CoreState.{CoreState, opening}
-use Rattle.build_work.specs.Holding.{spools_in}
+use Rattle.building.specs.Holding.{spools_in}
 use Rattle.build_events.specs.Steps.{Run}
 use Rattle.build_events.proofs.Runs.{run_more}
 use Rattle.build_events.proofs.Switching.{each_switch, run_stakes}
-use Rattle.build_halves.specs.FullSpools.{WantedPage}
+use Rattle.live_lemmas.specs.FullSpools.{WantedPage}
 use Rattle.builder_core.proofs.run.run_events.Goals as goal
 
 pub loop-event-preserved : goal.loop-event-preserved

@@ -1,9 +1,9 @@
 use Rattle.std.proofs.Common.{◌≡◌, ◌≤◌, length, take}
 use Rattle.std.specs.Vec.{vec_capacity}
 use Rattle.build_events.specs.CoreState.{opening}
-use Rattle.build_work.specs.Holding.{spools_in}
+use Rattle.building.specs.Holding.{spools_in}
 use Rattle.build_events.specs.Steps.{Run}
-use Rattle.build_halves.specs.FullSpools.{WantedPage}
+use Rattle.live_lemmas.specs.FullSpools.{WantedPage}
 use Rattle.builder_core.proofs.run.run_events.Given as goal
 
 abbrev pub invariant-loop-event : goal.invariant-loop-event

@@ -1,7 +1,7 @@
 use Rattle.std.proofs.Common.{List, ap, ◌∙◌, subst}
 use mathlib.Core.List.{IsPrefix}
 use Rattle.heap_log.specs.declared.record.LogRec.{LogRec}
-use Rattle.build_halves.specs.Builds.{LiveValue}
+use Rattle.live_lemmas.specs.Builds.{LiveValue}
 use Rattle.build_events.specs.CoreState.{LiveState}
 use Rattle.crew.proofs.Compared.{all_with}
 use Rattle.crew.proofs.closing.compare_all.Goals as goal

@@ -1,7 +1,7 @@
 use Rattle.std.proofs.Common.{◌≡◌, Result, Ok, Err, length}
 use Rattle.std.specs.Prelude.{IfErr, OnOk}
 use Rattle.keybytes.specs.declared.fault.Fault.{Fault}
-use Rattle.build_work.specs.IndexLoads.{HasLoadedAll, LoadsStopped}
+use Rattle.building.specs.IndexLoads.{HasLoadedAll, LoadsStopped}
 use Rattle.crew.specs.Places.{GoesOnWith, stakes_beside}
 use Rattle.crew.proofs.Loads.{all_goes_on, all_stakes, stopped_stakes}
 use Rattle.crew.proofs.loading.load_all.Goals as goal

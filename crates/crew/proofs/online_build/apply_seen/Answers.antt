@@ -1,8 +1,8 @@
 use Rattle.std.proofs.Common.{◌≡◌, ◌≤◌, ◌<◌, List, length, true, arith}
 use Rattle.std.specs.Prelude.{is_some}
 use Rattle.keybytes.specs.Keys.{KeySpecValue}
-use Rattle.building.proofs.Places.{there_is}
-use Rattle.build_work.proofs.Applying.{can_apply_seen}
+use Rattle.page_workers.proofs.Places.{there_is}
+use Rattle.building.proofs.Applying.{can_apply_seen}
 use Rattle.crew.specs.Places.{GoesOnWith}
 use Rattle.crew.proofs.Loads.{applied_goes_on, seen_goes_on}
 use Rattle.crew.proofs.Results.{ok_on}

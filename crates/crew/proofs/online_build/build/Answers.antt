@@ -1,5 +1,5 @@
 use Rattle.std.proofs.Common.{ap, ◌∙◌}
-use Rattle.build_work.specs.BuildingValue.{BuildingValue}
+use Rattle.building.specs.BuildingValue.{BuildingValue}
 use Rattle.crew.proofs.HandedIn.{handed_stakes, not_all_empty}
 use Rattle.crew.proofs.online_build.build.Goals as goal
 

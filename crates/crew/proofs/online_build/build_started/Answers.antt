@@ -1,6 +1,6 @@
 use Rattle.std.proofs.Common.{ap, ◌∙◌}
-use Rattle.build_work.proofs.OneWorker.{the_work}
-use Rattle.build_work.specs.BuildingValue.{WorkValue}
+use Rattle.building.proofs.OneWorker.{the_work}
+use Rattle.building.specs.BuildingValue.{WorkValue}
 use Rattle.crew.proofs.Gathered.{gathered_goes_on, gathered_scans, gathered_stakes}
 use Rattle.crew.proofs.Places.{all_back}
 use Rattle.crew.proofs.online_build.build_started.Goals as goal

@@ -1,7 +1,7 @@
 use Rattle.std.proofs.Common.{◌≡◌, ◌+◌, ◌<◌, ℕ, List, None, ap, ◌∙◌, inl, inr, arith, length-set}
 use Rattle.std.proofs.lemmas.Bool.{cases_lt}
-use Rattle.building.specs.WorkerValue.{WorkerValue}
-use Rattle.building.proofs.Places.{all_from, at_set, below, kept}
+use Rattle.page_workers.specs.WorkerValue.{WorkerValue}
+use Rattle.page_workers.proofs.Places.{all_from, at_set, below, kept}
 use Rattle.crew.specs.Places.{place_of, places_of}
 use Rattle.crew.proofs.scanning.seal_all.Goals as goal
 

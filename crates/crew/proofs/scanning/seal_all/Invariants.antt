@@ -1,6 +1,6 @@
 use Rattle.std.proofs.Common.{◌≡◌, ◌<◌, ℕ, length, Some, None}
 use Rattle.std.specs.List.{slice_get}
-use Rattle.building.specs.WorkerValue.{WorkerValue}
+use Rattle.page_workers.specs.WorkerValue.{WorkerValue}
 use Rattle.crew.specs.Places.{places_of}
 use Rattle.crew.proofs.scanning.seal_all.Given as goal
 

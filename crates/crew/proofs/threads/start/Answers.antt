@@ -6,8 +6,8 @@ use denote.Param.Send.{IsSend, param_send, sendable, shr_send}
 use denote.Struct.Tuple.{TupleAt}
 use Rattle.std.proofs.Crossing.{crosses}
 use Rattle.std.specs.contracts.alloc.Global as Global
-use Rattle.building.proofs.worker.Worker.TheSendSync as worker
-use Rattle.building.specs.contracts.worker.Worker as Worker
+use Rattle.page_workers.proofs.worker.Worker.TheSendSync as worker
+use Rattle.page_workers.specs.contracts.worker.Worker as Worker
 use Rattle.crew.proofs.Crosses.{captured_send, table_sync}
 use Rattle.crew.proofs.range_queue.RangeQueue.TheSendSync as queue
 use Rattle.crew.proofs.threads.start.Lts as lts

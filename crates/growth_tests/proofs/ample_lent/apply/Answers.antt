@@ -1,7 +1,7 @@
 use Rattle.std.proofs.Common.{◌<◌, rules, refl, sym, length}
-use Rattle.building.proofs.Places.{there_is}
-use Rattle.build_work.specs.BuildingValue.{WorkValue}
-use Rattle.build_work.proofs.Applying.{can_apply_seen}
+use Rattle.page_workers.proofs.Places.{there_is}
+use Rattle.building.specs.BuildingValue.{WorkValue}
+use Rattle.building.proofs.Applying.{can_apply_seen}
 use Rattle.growth_tests.proofs.ample_lent.apply.Goals as goal
 
 pub apply-requires : goal.apply-requires

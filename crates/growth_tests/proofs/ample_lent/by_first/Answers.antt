@@ -1,7 +1,7 @@
 use Rattle.std.proofs.Common.{List, rules}
-use Rattle.building.specs.WorkerValue.{WorkerValue}
-use Rattle.building.proofs.Places.{at_index}
-use Rattle.build_work.proofs.LentBack.{all_back}
+use Rattle.page_workers.specs.WorkerValue.{WorkerValue}
+use Rattle.page_workers.proofs.Places.{at_index}
+use Rattle.building.proofs.LentBack.{all_back}
 use Rattle.growth_tests.proofs.ample_lent.by_first.Goals as goal
 
 pub returns : goal.returns

@@ -1,7 +1,7 @@
 use Rattle.std.specs.Prelude.{List}
 use Rattle.side_file.specs.Ends.{RingId}
-use Rattle.build_work.specs.BuildingValue.{BuildingValue}
-use Rattle.build_work.specs.Lent.{AreBack}
+use Rattle.building.specs.BuildingValue.{BuildingValue}
+use Rattle.building.specs.Lent.{AreBack}
 use Rattle.growth_tests.proofs.ample_lent.by_workers.Given as goal
 
 -- they are all back, if they were at first

@@ -1,7 +1,7 @@
 use Rattle.std.proofs.Common.{◌≡◌, ◌<◌, List, None, ap, arith, below_more, sym, length}
-use Rattle.building.proofs.Places.{all_from, below}
-use Rattle.build_work.specs.BuildingValue.{IndexValue}
-use Rattle.spool_trees.proofs.Parts.{is_none}
+use Rattle.page_workers.proofs.Places.{all_from, below}
+use Rattle.building.specs.BuildingValue.{IndexValue}
+use Rattle.bulk_load.proofs.Parts.{is_none}
 use Rattle.growth_tests.proofs.ample_lent.none_is_loaded.Goals as goal
 
 pub loop-index-preserved : goal.loop-index-preserved

@@ -1,6 +1,6 @@
 use Rattle.std.proofs.Common.{◌≡◌, ℕ, ◌<◌, None, Some}
 use Rattle.std.specs.List.{slice_get}
-use Rattle.build_work.specs.BuildingValue.{IndexValue}
+use Rattle.building.specs.BuildingValue.{IndexValue}
 use Rattle.growth_tests.proofs.ample_lent.none_is_loaded.Given as goal
 
 -- none of the indexes so far has its pairs in order

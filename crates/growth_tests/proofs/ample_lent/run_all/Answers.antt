@@ -1,5 +1,5 @@
 use Rattle.std.proofs.Common.{subst, sym, arith}
-use Rattle.building.proofs.Places.{at_index}
+use Rattle.page_workers.proofs.Places.{at_index}
 use Rattle.index_load.specs.IndexLoad.{HasRun, IndexLoadValue}
 use Rattle.crew.proofs.Placewise.{zip_more}
 use Rattle.growth_tests.proofs.ample_lent.run_all.Goals as goal

@@ -1,8 +1,8 @@
 use Rattle.std.proofs.Common.{◌∙◌, ap, map, arith}
 use Rattle.std.proofs.lemmas.List.{take_at}
-use Rattle.building.specs.SpoolValue.{spool_value}
+use Rattle.page_workers.specs.SpoolValue.{spool_value}
 use Rattle.index_load.proofs.SpoolsSeen.{ended_values}
-use Rattle.building.proofs.Places.{as_long}
+use Rattle.page_workers.proofs.Places.{as_long}
 use Rattle.index_load.proofs.ending.end_spools.Goals as goal
 
 pub returns-clause-left : goal.returns-clause-left

@@ -1,7 +1,7 @@
 use Rattle.std.proofs.Common.{◌∙◌, List, map, sym, subst}
 use Rattle.std.specs.Prelude.{IfOk, IsPermutation}
 use Rattle.btree.specs.TreeValue.{TreeValue}
-use Rattle.building.specs.SpoolValue.{spool_value}
+use Rattle.page_workers.specs.SpoolValue.{spool_value}
 use Rattle.keybytes.specs.declared.pair.Pair.{Pair}
 use Rattle.run_spool.specs.Spools.{all_pairs}
 use Rattle.run_merge.specs.Merging.{all_runs}

@@ -1,7 +1,7 @@
 use Rattle.std.proofs.Common.{◌≡◌, ◌∙◌, map, sym, subst}
 use Rattle.std.specs.Prelude.{IfErr, IfOk, IsPermutation, OnOk, Result}
 use Rattle.btree.specs.TreeValue.{TreeValue}
-use Rattle.building.specs.SpoolValue.{ended_spool, pairs_in, spool_value}
+use Rattle.page_workers.specs.SpoolValue.{ended_spool, pairs_in, spool_value}
 use Rattle.catch_up.specs.Built.{BuiltValue}
 use Rattle.keybytes.specs.declared.fault.Fault.{Fault}
 use Rattle.keybytes.specs.declared.fault.Fault.TheVariants.{Memory}

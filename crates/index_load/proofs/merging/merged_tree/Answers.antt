@@ -1,7 +1,7 @@
 use Rattle.std.proofs.Common.{◌≡◌, ◌∙◌, ◌-◌, map, refl, ap, sym, subst}
 use Rattle.std.specs.Prelude.{OnOk}
 use Rattle.std.proofs.lemmas.Result.{on_ok_weaker}
-use Rattle.building.specs.SpoolValue.{spool_value, ended_spool}
+use Rattle.page_workers.specs.SpoolValue.{spool_value, ended_spool}
 use Rattle.index_load.specs.Columns.{ended_column}
 use Rattle.index_load.proofs.Columns.{every_map, every_changed, all_but_changed}
 use Rattle.index_load.proofs.Merges.{ended_same, put_together}

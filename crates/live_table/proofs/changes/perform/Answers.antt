@@ -2,14 +2,14 @@ use Rattle.std.proofs.Common.{◌≡◌, length, sym, subst, ap, ◌∙◌, refl
 use Rattle.heap_table.specs.HeapState.{HeapState}
 use Rattle.heap_table.specs.Pages.{SetsRow}
 use Rattle.side_file.specs.SideFileValue.{SideFileValue}
-use Rattle.build_scan.specs.TableBuilds.{BuildFollows}
-use Rattle.build_work.specs.WorkOn.{WorkMatches}
-use Rattle.build_halves.specs.Rings.{PagesFollow}
-use Rattle.build_scan.specs.SideFiles.{SidesFollow}
-use Rattle.building.proofs.Places.{as_long}
-use Rattle.build_scan.proofs.Performed.{schema_is, follows_on, sides_follow_on, fits_build, few_specs}
-use Rattle.build_halves.proofs.Performed.{fits_each, pages_on, works_on}
-use Rattle.build_scan.proofs.SideKept.{sides_stay}
+use Rattle.table_scan.specs.TableBuilds.{BuildFollows}
+use Rattle.building.specs.WorkOn.{WorkMatches}
+use Rattle.live_lemmas.specs.Rings.{PagesFollow}
+use Rattle.table_scan.specs.SideFiles.{SidesFollow}
+use Rattle.page_workers.proofs.Places.{as_long}
+use Rattle.table_scan.proofs.Performed.{schema_is, follows_on, sides_follow_on, fits_build, few_specs}
+use Rattle.live_lemmas.proofs.Performed.{fits_each, pages_on, works_on}
+use Rattle.table_scan.proofs.SideKept.{sides_stay}
 use Rattle.live_table.proofs.changes.perform.Goals as goal
 
 pub prepare-requires : goal.prepare-requires

@@ -6,7 +6,7 @@ use Rattle.std.proofs.lemmas.List.Folds.{list_all_at, list_all_more}
 use Rattle.keybytes.specs.Keys.{KeySpecValue}
 use Rattle.keybytes.specs.declared.kind.Kind.{Kind}
 use Rattle.keybytes.specs.Schemas.{same_kinds}
-use Rattle.build_halves.proofs.Starts.{kinds_differ, kinds_agree, each_agrees}
+use Rattle.live_lemmas.proofs.Starts.{kinds_differ, kinds_agree, each_agrees}
 use Rattle.live_table.proofs.live_builds.are_of.Goals as goal
 
 -- whether a specification is of these columns

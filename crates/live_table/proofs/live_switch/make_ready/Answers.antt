@@ -8,10 +8,10 @@ use Rattle.keybytes.specs.Keys.{KeySpecValue, are_key_columns}
 use Rattle.keybytes.specs.declared.pair.Pair.{Pair}
 use Rattle.ready_indexes.specs.Following.{MayFollow, indexes_of}
 use Rattle.ready_indexes.specs.Indexes.{IsIndex, ReadyValue}
-use Rattle.build_work.specs.BuildingValue.{IndexValue}
-use Rattle.build_halves.specs.CatchingUp.{ready_of, built_pairs}
-use Rattle.build_halves.proofs.MadeReady.{ready_more, ready_same}
-use Rattle.build_halves.proofs.SwitchIn.{first_done, none_done}
+use Rattle.building.specs.BuildingValue.{IndexValue}
+use Rattle.live_lemmas.specs.CatchingUp.{ready_of, built_pairs}
+use Rattle.live_lemmas.proofs.MadeReady.{ready_more, ready_same}
+use Rattle.live_lemmas.proofs.SwitchIn.{first_done, none_done}
 use Rattle.live_table.proofs.live_switch.make_ready.Goals as goal
 
 -- its columns make a key

@@ -3,7 +3,7 @@ use Rattle.std.specs.List.{All, AllZip}
 use Rattle.keybytes.specs.Keys.{are_key_columns}
 use Rattle.heap_table.specs.HeapState.{HeapState}
 use Rattle.ready_indexes.specs.Following.{AllFollow, MayFollow, indexes_of}
-use Rattle.build_halves.specs.CatchingUp.{IsDoneIndex, ready_of}
+use Rattle.live_lemmas.specs.CatchingUp.{IsDoneIndex, ready_of}
 use Rattle.live_table.proofs.live_switch.make_ready.Given as goal
 
 abbrev pub invariant-loop-spec : goal.invariant-loop-spec

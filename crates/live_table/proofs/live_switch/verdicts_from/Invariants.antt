@@ -1,6 +1,6 @@
 use Rattle.std.proofs.Common.{◌≡◌, ◌+◌, ◌++◌, ◌≤◌, drop, length, vec_capacity}
 use Rattle.std.specs.Prelude.{map}
-use Rattle.build_work.specs.Verdicts.{its_verdict}
+use Rattle.building.specs.Verdicts.{its_verdict}
 use Rattle.build_events.specs.Verdicts.{outcomes}
 use Rattle.live_table.proofs.live_switch.verdicts_from.Given as goal
 

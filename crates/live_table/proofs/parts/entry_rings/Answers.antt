@@ -5,8 +5,8 @@ use Rattle.std.proofs.lemmas.List.Elements.{All-push}
 use Rattle.side_file.specs.Ends.{PutEnd}
 use Rattle.side_file.specs.SideFileValue.{SideFileValue}
 use Rattle.side_file.specs.declared.entry.Entry.{Entry}
-use Rattle.building.specs.TakeEnd.{TakeEnd, take_end}
-use Rattle.build_scan.specs.SideFiles.{side_rings, taken_rings, put_ends}
+use Rattle.page_workers.specs.TakeEnd.{TakeEnd, take_end}
+use Rattle.table_scan.specs.SideFiles.{side_rings, taken_rings, put_ends}
 use Rattle.live_table.proofs.parts.entry_rings.Goals as goal
 
 pub loop-preserved : goal.loop-preserved

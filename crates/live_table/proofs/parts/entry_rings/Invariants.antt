@@ -1,6 +1,6 @@
 use Rattle.std.proofs.Common.{◌≡◌, ◌≤◌, [], All, map, length, vec_capacity}
-use Rattle.building.specs.TakeEnd.{take_end}
-use Rattle.build_scan.specs.SideFiles.{side_rings, taken_rings, put_ends}
+use Rattle.page_workers.specs.TakeEnd.{take_end}
+use Rattle.table_scan.specs.SideFiles.{side_rings, taken_rings, put_ends}
 use Rattle.live_table.proofs.parts.entry_rings.Given as goal
 
 abbrev pub invariant-loop : goal.invariant-loop

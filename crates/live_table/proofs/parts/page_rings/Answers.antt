@@ -3,9 +3,9 @@ use Rattle.std.specs.List.{All}
 use Rattle.std.proofs.lemmas.List.{map-append}
 use Rattle.std.proofs.lemmas.List.Elements.{All-nil, All-push}
 use Rattle.side_file.specs.Ends.{PutEnd}
-use Rattle.building.specs.IntakeValue.{IntakeValue}
-use Rattle.building.specs.declared.copied.Copied.{Copied}
-use Rattle.build_work.specs.Rings.{put_rings, take_rings, all_sent}
+use Rattle.page_workers.specs.IntakeValue.{IntakeValue}
+use Rattle.page_workers.specs.declared.copied.Copied.{Copied}
+use Rattle.building.specs.Rings.{put_rings, take_rings, all_sent}
 use Rattle.live_table.proofs.parts.page_rings.Goals as goal
 
 abbrev None_sent : List Copied → Type 0

@@ -1,5 +1,5 @@
 use Rattle.std.proofs.Common.{◌≡◌, ◌≤◌, [], All, length, vec_capacity}
-use Rattle.build_work.specs.Rings.{put_rings, take_rings, all_sent, AreOfBuilds}
+use Rattle.building.specs.Rings.{put_rings, take_rings, all_sent, AreOfBuilds}
 use Rattle.live_table.proofs.parts.page_rings.Given as goal
 
 abbrev pub invariant-loop : goal.invariant-loop

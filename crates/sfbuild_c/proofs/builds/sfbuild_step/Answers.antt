@@ -1,5 +1,5 @@
 use Rattle.std.proofs.Common.{refl, subst, ◌∙◌, inl}
-use Rattle.embedding.specs.KeptTables.{KeptValue}
+use Rattle.kept_table.specs.KeptTables.{KeptValue}
 use Rattle.sfbuild_c.specs.Building.{Advances}
 use Rattle.sfbuild_c.proofs.Answering.{advances}
 use Rattle.sfbuild_c.proofs.builds.sfbuild_step.Goals as goal

@@ -1,6 +1,6 @@
 use Rattle.std.proofs.Common.{length, IsSomeAnd, refl, ap, subst, ◌∙◌, inl}
-use Rattle.embedding.specs.Decisions.{Decides, verdicts_in}
-use Rattle.embedding.specs.KeptTables.{KeptValue}
+use Rattle.kept_table.specs.Decisions.{Decides, verdicts_in}
+use Rattle.kept_table.specs.KeptTables.{KeptValue}
 use Rattle.sfbuild_c.proofs.Answering.{some_decides}
 use Rattle.sfbuild_c.proofs.builds.sfbuild_switch.Goals as goal
 

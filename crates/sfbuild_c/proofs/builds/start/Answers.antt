@@ -1,7 +1,7 @@
 use Rattle.std.proofs.Common.{false, refl, ap, sym, ◌∙◌}
 use Rattle.scan_range.specs.declared.dealing.Dealing.TheVariants.{Even}
 use Rattle.build_events.specs.declared.plan.Plan.{Plan}
-use Rattle.embedding.specs.KeptTables.{KeptValue}
+use Rattle.kept_table.specs.KeptTables.{KeptValue}
 use Rattle.sfbuild_c.proofs.Starting.{none_there, refuses, starts}
 use Rattle.sfbuild_c.proofs.builds.start.Goals as goal
 

@@ -2,7 +2,7 @@ use Rattle.std.proofs.Common.{◌≡◌, ◌≤◌, ◌+◌, ◌++◌, All, leng
 use Rattle.std.specs.Vec.Iter.{into_iter_items}
 use Rattle.spool_ledger.specs.Accounts.{IsWhole}
 use Rattle.run_spool.specs.PagedSpools.{new_spool}
-use Rattle.spool_choice.specs.Choices.{kinds_from}
+use Rattle.run_spool.specs.Choices.{kinds_from}
 use Rattle.spool_kinds.specs.Kinds.{inside, kind_of}
 use Rattle.spool_kinds.proofs.making.spools_over.Given as goal
 

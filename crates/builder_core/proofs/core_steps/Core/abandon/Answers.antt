@@ -1,9 +1,9 @@
 use Rattle.std.proofs.Common.{◌≡◌, ◌∙◌, IsSome, true, refl, ap, subst}
-use Rattle.build_halves.specs.Builds.{LiveValue, core_state}
-use Rattle.build_work.specs.BuildingValue.{BuildingValue}
+use Rattle.live_lemmas.specs.Builds.{LiveValue, core_state}
+use Rattle.building.specs.BuildingValue.{BuildingValue}
 use Rattle.build_events.specs.CoreState.{CoreState, SpoolsState, abandoned, idle, opening}
-use Rattle.build_work.proofs.OneWorker.{ended_stakes}
-use Rattle.build_halves.proofs.Refusals.{builds_on, given_to}
+use Rattle.building.proofs.OneWorker.{ended_stakes}
+use Rattle.live_lemmas.proofs.Refusals.{builds_on, given_to}
 use Rattle.builder_core.proofs.core_steps.Core.abandon.Goals as goal
 
 pub returns : goal.returns

@@ -1,6 +1,6 @@
 use Rattle.std.proofs.Common.{sym, subst}
 use Rattle.std.specs.Prelude.{IfErr}
-use Rattle.build_halves.specs.FullSpools.{IfSpooling, NoPageOnlyIfFull}
+use Rattle.live_lemmas.specs.FullSpools.{IfSpooling, NoPageOnlyIfFull}
 use Rattle.build_events.specs.Steps.{Answers}
 use Rattle.build_events.specs.declared.event.Event.{Event}
 use Rattle.builder_core.proofs.core_steps.Core.attempt.Goals as goal

@@ -1,8 +1,8 @@
 use Rattle.std.proofs.Common.{◌∙◌, ap}
-use Rattle.build_halves.specs.Builds.{LiveValue, core_state}
+use Rattle.live_lemmas.specs.Builds.{LiveValue, core_state}
 use Rattle.build_events.specs.CoreState.{CoreState, abandoned, opening}
-use Rattle.build_work.specs.Holding.{spools_in}
-use Rattle.build_work.proofs.LeftBeside.{spools_handed}
+use Rattle.building.specs.Holding.{spools_in}
+use Rattle.building.proofs.LeftBeside.{spools_handed}
 use Rattle.builder_core.proofs.core_steps.Core.exchange_spools.Goals as goal
 
 pub returns-clause-core : goal.returns-clause-core

@@ -1,7 +1,7 @@
 use Rattle.std.proofs.Common.{◌∙◌, ap}
-use Rattle.build_halves.specs.Builds.{LiveValue, core_state}
+use Rattle.live_lemmas.specs.Builds.{LiveValue, core_state}
 use Rattle.build_events.specs.CoreState.{abandoned, opening}
-use Rattle.build_work.proofs.LeftBeside.{spools_handed}
+use Rattle.building.proofs.LeftBeside.{spools_handed}
 use Rattle.builder_core.proofs.core_steps.Core.new.Goals as goal
 
 pub returns : goal.returns

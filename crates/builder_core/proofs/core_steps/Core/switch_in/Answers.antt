@@ -1,5 +1,5 @@
 use Rattle.std.proofs.Common.{◌≡◌, None, refl, subst, ℕ, List}
-use Rattle.build_halves.specs.Builds.{core_state}
+use Rattle.live_lemmas.specs.Builds.{core_state}
 use Rattle.build_events.specs.CoreState.{CoreState}
 use Rattle.build_events.specs.BuildSteps.{Switches, build_cause, switch_refusal}
 use Rattle.build_events.proofs.SharedKeys.{shared_told}

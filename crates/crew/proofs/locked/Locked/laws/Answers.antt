@@ -1,6 +1,6 @@
 use Rattle.std.proofs.Common.{IfSome, subst}
-use Rattle.build_halves.specs.Builds.{LiveValue}
-use Rattle.build_scan.specs.SideFiles.{EachEntryOnce}
+use Rattle.live_lemmas.specs.Builds.{LiveValue}
+use Rattle.table_scan.specs.SideFiles.{EachEntryOnce}
 use Rattle.crew.proofs.locked.Locked.laws.Goals as goal
 
 pub returns-clause-entries : goal.returns-clause-entries

@@ -2,7 +2,7 @@ use Rattle.std.proofs.Common.{All, List, subst}
 use Rattle.keybytes.specs.declared.pair.Pair.{Pair}
 use Rattle.run_spool.specs.Spools.{AreSorted, all_pairs}
 use Rattle.run_merge.specs.Merging.{all_runs}
-use Rattle.spool_trees.specs.Each.{AreEachOnce}
+use Rattle.bulk_load.specs.Each.{AreEachOnce}
 use Rattle.index_load.proofs.SpoolsSeen.{runs_seen}
 use Rattle.index_load.proofs.index_load.IndexLoad.new.Goals as goal
 

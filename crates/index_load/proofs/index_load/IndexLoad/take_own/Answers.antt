@@ -2,7 +2,7 @@ use Rattle.std.proofs.Common.{◌∙◌, All, List, map, ap, sym, subst}
 use Rattle.keybytes.specs.declared.pair.Pair.{Pair}
 use Rattle.run_spool.specs.Spools.{AreSorted, all_pairs}
 use Rattle.run_merge.specs.Merging.{all_runs}
-use Rattle.spool_trees.specs.Each.{AreEachOnce}
+use Rattle.bulk_load.specs.Each.{AreEachOnce}
 use Rattle.index_load.specs.IndexLoad.{IndexLoadValue}
 use Rattle.index_load.proofs.LoadRan.{none_loadable}
 use Rattle.index_load.proofs.SpoolsSeen.{runs_seen}

@@ -1,8 +1,8 @@
-use Rattle.build_halves.specs.Builds.{core_state}
-use Rattle.build_halves.proofs.ApplyCauses.{applies_next, can_apply_next, applies_all, applies_some, works_after_apply}
-use Rattle.build_halves.proofs.Feeding.{state_side_looked}
-use Rattle.build_halves.proofs.IndexApplied.{AppliesNext}
-use Rattle.build_halves.proofs.SentNext.{looked_on_side}
+use Rattle.live_lemmas.specs.Builds.{core_state}
+use Rattle.live_lemmas.proofs.ApplyCauses.{applies_next, can_apply_next, applies_all, applies_some, works_after_apply}
+use Rattle.live_lemmas.proofs.Feeding.{state_side_looked}
+use Rattle.live_lemmas.proofs.IndexApplied.{AppliesNext}
+use Rattle.live_lemmas.proofs.SentNext.{looked_on_side}
 use Rattle.live_table.proofs.live.Live.apply.Given as given
 use Rattle.live_table.proofs.live.Live.apply.Goals as goal
 use Rattle.live_table.proofs.live.Live.apply.Goals.{After-min}

@@ -1,8 +1,8 @@
 use Rattle.std.proofs.Common.{◌≡◌, ap, ◌∙◌, sym, subst, arith, inl, inr, true}
 use Rattle.std.proofs.lemmas.Bool.{cases_lt, false≢true}
-use Rattle.build_halves.specs.Builds.{LiveValue}
-use Rattle.build_halves.specs.Switching.{IsFedAt}
-use Rattle.build_halves.proofs.PartOf.{fed_at_looked, fed_of_part, more_looked, of_looked, none_looked, one_looked, part_from, sides_same}
+use Rattle.live_lemmas.specs.Builds.{LiveValue}
+use Rattle.live_lemmas.specs.Switching.{IsFedAt}
+use Rattle.live_lemmas.proofs.PartOf.{fed_at_looked, fed_of_part, more_looked, of_looked, none_looked, one_looked, part_from, sides_same}
 use Rattle.live_table.proofs.live.Live.are_fed.Goals as goal
 
 pub loop-index-init : goal.loop-index-init

@@ -1,5 +1,5 @@
 use Rattle.std.proofs.Common.{◌<◌, ℕ}
-use Rattle.build_halves.specs.Switching.{IsFedAt, SidesAreLooked}
+use Rattle.live_lemmas.specs.Switching.{IsFedAt, SidesAreLooked}
 use Rattle.live_table.proofs.live.Live.are_fed.Given as goal
 
 abbrev pub invariant-loop-index : goal.invariant-loop-index

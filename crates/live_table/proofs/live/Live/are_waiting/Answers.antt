@@ -1,12 +1,12 @@
 use Rattle.std.proofs.Common.{◌≡◌, ◌-◌, ◌<◌, ◌≤◌, List, sym, ap, ◌∙◌, subst}
 use Rattle.std.specs.Prelude.{IsTrue, nat_eq, nat_le, ◌↔◌}
 use Rattle.side_file.specs.SideFileValue.{SideFileValue}
-use Rattle.build_halves.specs.Builds.{LiveValue}
-use Rattle.build_halves.specs.Switching.{IsFedAt}
-use Rattle.build_scan.specs.SideFiles.{SidesFollow, put_ends, side_rings, taken_rings}
-use Rattle.build_scan.specs.TableBuilds.{BuildFollows}
-use Rattle.build_halves.proofs.PartOf.{tests_tell}
-use Rattle.build_halves.proofs.SideEnds.{eight_sides}
+use Rattle.live_lemmas.specs.Builds.{LiveValue}
+use Rattle.live_lemmas.specs.Switching.{IsFedAt}
+use Rattle.table_scan.specs.SideFiles.{SidesFollow, put_ends, side_rings, taken_rings}
+use Rattle.table_scan.specs.TableBuilds.{BuildFollows}
+use Rattle.live_lemmas.proofs.PartOf.{tests_tell}
+use Rattle.live_lemmas.proofs.SideEnds.{eight_sides}
 use Rattle.live_table.proofs.live.Live.are_waiting.Given as given
 use Rattle.live_table.proofs.live.Live.are_waiting.Goals as goal
 use Rattle.live_table.proofs.live.Live.are_waiting.Goals.{After-applied-applied}

@@ -1,10 +1,10 @@
 use Rattle.std.proofs.Common.{subst}
 use Rattle.std.specs.Prelude.{IfSome}
-use Rattle.build_halves.specs.Builds.{LiveValue}
-use Rattle.build_scan.specs.SideFiles.{NoneAhead}
-use Rattle.build_scan.proofs.Performed.{few_specs}
-use Rattle.build_halves.proofs.SideEnds.{eight_sides}
-use Rattle.build_scan.proofs.SideKept.{none_ahead}
+use Rattle.live_lemmas.specs.Builds.{LiveValue}
+use Rattle.table_scan.specs.SideFiles.{NoneAhead}
+use Rattle.table_scan.proofs.Performed.{few_specs}
+use Rattle.live_lemmas.proofs.SideEnds.{eight_sides}
+use Rattle.table_scan.proofs.SideKept.{none_ahead}
 use Rattle.live_table.proofs.live.Live.build.Goals as goal
 
 pub returns-clause-fed : goal.returns-clause-fed

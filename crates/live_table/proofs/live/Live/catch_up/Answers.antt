@@ -1,11 +1,11 @@
 use Rattle.std.proofs.Common.{◌≡◌, ◌<◌, ◌≤◌, ◌∙◌, length, refl, sym, subst, arith, inl, inr}
 use Rattle.std.proofs.lemmas.Bool.{cases_lt}
-use Rattle.build_halves.specs.Builds.{core_state}
-use Rattle.build_scan.specs.TableBuilds.{BuildFollows}
-use Rattle.build_halves.specs.CatchingUp.{left_at}
-use Rattle.build_halves.proofs.SentAll.{sends_all}
-use Rattle.build_halves.proofs.SentNext.{sends_nothing, sends_twice}
-use Rattle.build_halves.proofs.CatchingUp.{begins, catches_up, all_further, others_left, may_apply_at, none_left, none_of_each}
+use Rattle.live_lemmas.specs.Builds.{core_state}
+use Rattle.table_scan.specs.TableBuilds.{BuildFollows}
+use Rattle.live_lemmas.specs.CatchingUp.{left_at}
+use Rattle.live_lemmas.proofs.SentAll.{sends_all}
+use Rattle.live_lemmas.proofs.SentNext.{sends_nothing, sends_twice}
+use Rattle.live_lemmas.proofs.CatchingUp.{begins, catches_up, all_further, others_left, may_apply_at, none_left, none_of_each}
 use Rattle.live_table.proofs.live.Live.catch_up.Goals as goal
 
 pub loop-index-init : goal.loop-index-init

@@ -1,8 +1,8 @@
 use Rattle.std.proofs.Common.{◌≡◌, ◌<◌, ℕ}
-use Rattle.build_halves.specs.Builds.{core_state, StandsBeside}
-use Rattle.build_halves.specs.CatchingUp.{left_at}
-use Rattle.build_halves.specs.Putting.{SendsOn}
-use Rattle.build_halves.proofs.CatchingUp.{AllAreFurther}
+use Rattle.live_lemmas.specs.Builds.{core_state, StandsBeside}
+use Rattle.live_lemmas.specs.CatchingUp.{left_at}
+use Rattle.live_lemmas.specs.Putting.{SendsOn}
+use Rattle.live_lemmas.proofs.CatchingUp.{AllAreFurther}
 use Rattle.live_table.proofs.live.Live.catch_up.Given as goal
 
 abbrev pub invariant-loop-index : goal.invariant-loop-index

@@ -1,12 +1,12 @@
 use Rattle.std.proofs.Common.{◌<◌, ◌∙◌, ap, subst}
-use Rattle.build_halves.specs.Builds.{LiveValue, core_state}
-use Rattle.build_work.specs.BuildingValue.{BuildingValue}
-use Rattle.build_halves.specs.CatchingUp.{IndexIsFurther, left_at}
+use Rattle.live_lemmas.specs.Builds.{LiveValue, core_state}
+use Rattle.building.specs.BuildingValue.{BuildingValue}
+use Rattle.live_lemmas.specs.CatchingUp.{IndexIsFurther, left_at}
 use Rattle.build_events.specs.CoreState.{CoreState}
-use Rattle.build_halves.proofs.ApplyCauses.{applies_next}
-use Rattle.build_halves.proofs.IndexFurther.{further_from, applies_on, fed_further, applied_further, some_further, fewer_left, runs_on, index_on}
-use Rattle.build_halves.proofs.Feeding.{state_side_looked, works_side_looked}
-use Rattle.build_halves.proofs.SentNext.{looked_on_side, sends_twice}
+use Rattle.live_lemmas.proofs.ApplyCauses.{applies_next}
+use Rattle.live_lemmas.proofs.IndexFurther.{further_from, applies_on, fed_further, applied_further, some_further, fewer_left, runs_on, index_on}
+use Rattle.live_lemmas.proofs.Feeding.{state_side_looked, works_side_looked}
+use Rattle.live_lemmas.proofs.SentNext.{looked_on_side, sends_twice}
 use Rattle.live_table.proofs.live.Live.catch_up_one.Goals as goal
 
 pub loop-self-init : goal.loop-self-init

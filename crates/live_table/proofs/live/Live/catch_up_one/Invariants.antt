@@ -1,7 +1,7 @@
 use Rattle.std.proofs.Common.{◌≡◌}
-use Rattle.build_halves.specs.Builds.{core_state, StandsBeside}
-use Rattle.build_halves.specs.CatchingUp.{IndexIsFurther, left_at}
-use Rattle.build_halves.specs.Putting.{SendsOn}
+use Rattle.live_lemmas.specs.Builds.{core_state, StandsBeside}
+use Rattle.live_lemmas.specs.CatchingUp.{IndexIsFurther, left_at}
+use Rattle.live_lemmas.specs.Putting.{SendsOn}
 use Rattle.live_table.proofs.live.Live.catch_up_one.Given as goal
 
 abbrev pub invariant-loop-self : goal.invariant-loop-self

@@ -1,5 +1,5 @@
-use Rattle.build_halves.proofs.ApplyCauses.{not_loaded, applicable}
-use Rattle.build_halves.proofs.Refusals.{running}
+use Rattle.live_lemmas.proofs.ApplyCauses.{not_loaded, applicable}
+use Rattle.live_lemmas.proofs.Refusals.{running}
 use Rattle.live_table.proofs.live.Live.check_apply.Goals as goal
 
 pub returns-then-not-is_loaded-clause-refused : goal.returns-then-not-is_loaded-clause-refused

@@ -2,7 +2,7 @@ use Rattle.std.proofs.Common.{rules, ◌≡◌, ◌∙◌, None, sym}
 use Rattle.std.proofs.lemmas.Bool.{false≢true}
 use Rattle.build_events.specs.CoreState.{BuildState}
 use Rattle.build_events.specs.Ranges.{open_range}
-use Rattle.build_halves.proofs.EarlyCauses.{no_cause, not_loaded}
+use Rattle.live_lemmas.proofs.EarlyCauses.{no_cause, not_loaded}
 use Rattle.live_table.proofs.live.Live.check_early.Goals as goal
 
 pub returns-then-not-in_order-clause-cause : goal.returns-then-not-in_order-clause-cause

@@ -1,9 +1,9 @@
 use Rattle.std.proofs.Common.{rules, ◌≡◌, ◌<◌, None, ℕ, length, arith}
 use Rattle.build_events.specs.Ranges.{open_range}
-use Rattle.build_halves.specs.Builds.{IsRunning}
-use Rattle.build_halves.proofs.LoadLooked.{may_load, none_left, one_left}
-use Rattle.build_halves.proofs.Looked.{not_looked, works_looked, state_looked}
-use Rattle.build_halves.proofs.Refusals.{running}
+use Rattle.live_lemmas.specs.Builds.{IsRunning}
+use Rattle.live_lemmas.proofs.LoadLooked.{may_load, none_left, one_left}
+use Rattle.live_lemmas.proofs.Looked.{not_looked, works_looked, state_looked}
+use Rattle.live_lemmas.proofs.Refusals.{running}
 use Rattle.live_table.proofs.live.Live.check_load.Given as given
 use Rattle.live_table.proofs.live.Live.check_load.Goals as goal
 use Rattle.live_table.proofs.live.Live.check_load.Goals.{After-unsealed}

@@ -5,13 +5,13 @@ use Rattle.std.proofs.lemmas.Result.{err_from_is_err_and}
 use Rattle.keybytes.specs.Keys.{KeySpecValue}
 use Rattle.keybytes.specs.declared.kind.Kind.{Kind}
 use Rattle.heap_table.specs.Pages.{pages_written}
-use Rattle.build_halves.specs.Builds.{LiveValue, core_state}
+use Rattle.live_lemmas.specs.Builds.{LiveValue, core_state}
 use Rattle.build_events.specs.CoreState.{LiveState, SpoolsState}
 use Rattle.scan_range.specs.Dealings.{dealing_refusal}
 use Rattle.build_events.specs.BuildSteps.{counts_fit}
 use Rattle.keybytes.specs.Schemas.{same_kinds}
 use Rattle.build_events.specs.declared.plan.Plan.{Plan}
-use Rattle.build_halves.proofs.Starts.{bad_column, bad_ranges, bad_spools, nothing_bad}
+use Rattle.live_lemmas.proofs.Starts.{bad_column, bad_ranges, bad_spools, nothing_bad}
 use Rattle.live_table.proofs.live.Live.check_plan.Given as given
 use Rattle.live_table.proofs.live.Live.check_plan.Goals as goal
 use Rattle.live_table.proofs.live.Live.check_plan.Goals.{After-schema, After-check}

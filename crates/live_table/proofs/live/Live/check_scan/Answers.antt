@@ -1,10 +1,10 @@
 use Rattle.std.proofs.Common.{◌≡◌, ◌<◌, ◌∙◌, length, true, ap, sym, arith}
 use Rattle.std.specs.Prelude.{is_some}
-use Rattle.build_halves.specs.Builds.{IsRunning}
+use Rattle.live_lemmas.specs.Builds.{IsRunning}
 use Rattle.build_events.specs.Ranges.{next_page}
-use Rattle.build_halves.proofs.Refusals.{running}
-use Rattle.build_halves.proofs.ScanCauses.{ring_full, has_place}
-use Rattle.build_halves.proofs.Looked.{not_looked, works_looked, state_looked}
+use Rattle.live_lemmas.proofs.Refusals.{running}
+use Rattle.live_lemmas.proofs.ScanCauses.{ring_full, has_place}
+use Rattle.live_lemmas.proofs.Looked.{not_looked, works_looked, state_looked}
 use Rattle.live_table.proofs.live.Live.check_scan.Given as given
 use Rattle.live_table.proofs.live.Live.check_scan.Goals as goal
 use Rattle.live_table.proofs.live.Live.check_scan.Goals.{After-look}

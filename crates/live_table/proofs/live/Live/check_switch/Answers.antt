@@ -3,8 +3,8 @@ use Rattle.std.specs.Prelude.{MatchResult}
 use Rattle.keybytes.specs.declared.fault.Fault.{Fault}
 use Rattle.build_events.specs.CoreState.{BuildState}
 use Rattle.build_events.specs.Ranges.{open_range}
-use Rattle.build_halves.proofs.Refusals.{running}
-use Rattle.build_halves.proofs.Unloaded.{one_unloaded, too_far_behind, waits_for_writers}
+use Rattle.live_lemmas.proofs.Refusals.{running}
+use Rattle.live_lemmas.proofs.Unloaded.{one_unloaded, too_far_behind, waits_for_writers}
 use Rattle.live_table.proofs.live.Live.check_switch.Goals as goal
 
 pub returns-in-Some-first_unloaded : goal.returns-in-Some-first_unloaded

@@ -3,13 +3,13 @@ use Rattle.heap_table.specs.HeapState.{HeapState}
 use Rattle.heap_table.specs.HeapValue.{HeapValue}
 use Rattle.heap_log.specs.declared.record.LogRec.TheVariants.{Commit}
 use Rattle.ready_indexes.specs.Following.{AllFollow, GoesOn}
-use Rattle.build_halves.specs.Builds.{LiveValue, StandsBeside}
-use Rattle.build_work.specs.Rings.{all_sent}
-use Rattle.build_halves.proofs.Following.{committed, commit_pages, commit_workers, commit_works, refused_same}
-use Rattle.build_scan.proofs.TableBuilds.{commit_follows}
-use Rattle.build_scan.proofs.SideKept.{commit_sides}
+use Rattle.live_lemmas.specs.Builds.{LiveValue, StandsBeside}
+use Rattle.building.specs.Rings.{all_sent}
+use Rattle.live_lemmas.proofs.Following.{committed, commit_pages, commit_workers, commit_works, refused_same}
+use Rattle.table_scan.proofs.TableBuilds.{commit_follows}
+use Rattle.table_scan.proofs.SideKept.{commit_sides}
 use Rattle.live_table.proofs.live.Live.commit.Goals as goal
-use Rattle.build_scan.specs.SideFiles.{put_ends}
+use Rattle.table_scan.specs.SideFiles.{put_ends}
 
 pub invariant_of-self : goal.invariant_of-self
 invariant_of-self g c =

@@ -1,7 +1,7 @@
 use Rattle.std.proofs.Common.{subst}
-use Rattle.build_scan.specs.TableBuilds.{BuildFollows}
-use Rattle.build_halves.specs.Builds.{LiveValue}
-use Rattle.build_halves.proofs.TakenIn.{hands_over, looks_again, may_hand_over}
+use Rattle.table_scan.specs.TableBuilds.{BuildFollows}
+use Rattle.live_lemmas.specs.Builds.{LiveValue}
+use Rattle.live_lemmas.proofs.TakenIn.{hands_over, looks_again, may_hand_over}
 use Rattle.live_table.proofs.live.Live.end_scan.Goals as goal
 
 pub hand_over-requires : goal.hand_over-requires

@@ -6,28 +6,28 @@ use Rattle.heap_table.specs.HeapState.{HeapState}
 use Rattle.side_file.specs.Ends.{PutEnd}
 use Rattle.side_file.specs.SideFileValue.{SideFileValue}
 use Rattle.side_file.specs.declared.entry.Entry.{Entry}
-use Rattle.build_halves.specs.Builds.{LiveValue, StandsBeside, HasFed, next_entries}
-use Rattle.build_work.specs.WorkOn.{WorkMatches, WorkersFollow}
-use Rattle.build_scan.specs.TableBuilds.{IsBuildOf, BuildFollows}
+use Rattle.live_lemmas.specs.Builds.{LiveValue, StandsBeside, HasFed, next_entries}
+use Rattle.building.specs.WorkOn.{WorkMatches, WorkersFollow}
+use Rattle.table_scan.specs.TableBuilds.{IsBuildOf, BuildFollows}
 use Rattle.build_events.specs.CoreState.{BuildState, scanning_of}
-use Rattle.build_work.specs.Rings.{all_sent}
-use Rattle.build_halves.specs.Rings.{HasPut, PagesFollow}
-use Rattle.build_scan.specs.SideFiles.{HasEntries, HaveEntries, SidesFollow, put_ends}
+use Rattle.building.specs.Rings.{all_sent}
+use Rattle.live_lemmas.specs.Rings.{HasPut, PagesFollow}
+use Rattle.table_scan.specs.SideFiles.{HasEntries, HaveEntries, SidesFollow, put_ends}
 use Rattle.side_file.specs.Changes.{feed_most}
 use Rattle.side_file.specs.Entries.{entry_of}
 use Rattle.build_events.specs.BuildSteps.{after_feed}
 use Rattle.build_events.specs.Workers.{unfed, fed_to}
-use Rattle.build_scan.proofs.Feeding.{left_unfed, fed_countable, build_fed, sides_fed}
-use Rattle.build_halves.proofs.Feeding.{follow_fed, work_fed}
-use Rattle.build_scan.proofs.OwnEntries.{sent_at, sent_fed, sent_set}
-use Rattle.building.proofs.Places.{at_index, map_at, there_is}
-use Rattle.build_halves.proofs.SideEnds.{put_ends_stay, eight_sides}
+use Rattle.table_scan.proofs.Feeding.{left_unfed, fed_countable, build_fed, sides_fed}
+use Rattle.live_lemmas.proofs.Feeding.{follow_fed, work_fed}
+use Rattle.table_scan.proofs.OwnEntries.{sent_at, sent_fed, sent_set}
+use Rattle.page_workers.proofs.Places.{at_index, map_at, there_is}
+use Rattle.live_lemmas.proofs.SideEnds.{put_ends_stay, eight_sides}
 use Rattle.ready_indexes.specs.Following.{indexes_of}
 use Rattle.live_table.proofs.live.Live.feed.Given as given
 use Rattle.live_table.proofs.live.Live.feed.Goals as goal
 use Rattle.live_table.proofs.live.Live.feed.Goals.{After-feed-count}
 use Rattle.build_events.specs.SideEntries.{side_entries}
-use Rattle.build_scan.proofs.SideKept.{left_of}
+use Rattle.table_scan.proofs.SideKept.{left_of}
 use Rattle.keybytes.specs.Keys.{KeySpecValue}
 use Rattle.visibility.specs.SideEntries.{SideEntry}
 

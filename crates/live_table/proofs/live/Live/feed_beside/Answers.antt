@@ -1,8 +1,8 @@
 use Rattle.std.proofs.Common.{◌∙◌, ap}
 use Rattle.std.specs.Prelude.{min}
-use Rattle.build_halves.proofs.FedBeside.{fed_refused, fed_accepted, fed_unchanged, feeds_beside}
-use Rattle.build_halves.proofs.Feeding.{works_side_looked}
-use Rattle.build_halves.proofs.SentNext.{sent_beside}
+use Rattle.live_lemmas.proofs.FedBeside.{fed_refused, fed_accepted, fed_unchanged, feeds_beside}
+use Rattle.live_lemmas.proofs.Feeding.{works_side_looked}
+use Rattle.live_lemmas.proofs.SentNext.{sent_beside}
 use Rattle.live_table.proofs.live.Live.feed_beside.Goals as goal
 
 pub returns-clause-fed : goal.returns-clause-fed

@@ -1,9 +1,9 @@
 use Rattle.std.proofs.Common.{◌≡◌, true, false, length, Option, refl, ap, sym, subst, ◌∙◌}
 use Rattle.std.specs.Option.{IfSome}
-use Rattle.build_halves.specs.Builds.{LiveValue, core_state, IsRunning}
-use Rattle.build_work.specs.BuildingValue.{BuildingValue, WorkValue}
-use Rattle.build_halves.proofs.Loaded.{lent_once, put_inside}
-use Rattle.build_halves.proofs.HandedOver.{can_hand_over, handed_is, handed_run, handed_state}
+use Rattle.live_lemmas.specs.Builds.{LiveValue, core_state, IsRunning}
+use Rattle.building.specs.BuildingValue.{BuildingValue, WorkValue}
+use Rattle.live_lemmas.proofs.Loaded.{lent_once, put_inside}
+use Rattle.live_lemmas.proofs.HandedOver.{can_hand_over, handed_is, handed_run, handed_state}
 use Rattle.live_table.proofs.live.Live.hand_over.Goals as goal
 
 pub hand_over-requires : goal.hand_over-requires

@@ -1,7 +1,7 @@
 use Rattle.std.proofs.Common.{◌≡◌, length, None, Some, subst, sym}
 use Rattle.keybytes.specs.Rows.{row_bytes}
 use Rattle.heap_table.specs.HeapState.{HeapState, insert_place, insert_refusal}
-use Rattle.build_halves.specs.Builds.{LiveValue}
+use Rattle.live_lemmas.specs.Builds.{LiveValue}
 use Rattle.ready_indexes.specs.KeyCauses.{keys_refusal}
 use Rattle.keybytes.proofs.FirstCause.{both_none}
 use Rattle.ready_indexes.proofs.Each.{let_in_by}

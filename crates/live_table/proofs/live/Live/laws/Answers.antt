@@ -1,16 +1,16 @@
 use Rattle.std.proofs.Common.{◌≡◌, ◌∙◌, length, subst}
 use Rattle.std.proofs.lemmas.List.{length-map}
 use Rattle.side_file.specs.Ends.{PutEnd}
-use Rattle.building.specs.declared.copied.Copied.{Copied}
+use Rattle.page_workers.specs.declared.copied.Copied.{Copied}
 use Rattle.std.specs.Prelude.{IfSome}
-use Rattle.build_halves.specs.Builds.{LiveValue}
-use Rattle.build_halves.specs.Invariant.{EachPageOnce}
+use Rattle.live_lemmas.specs.Builds.{LiveValue}
+use Rattle.live_lemmas.specs.Invariant.{EachPageOnce}
 use Rattle.build_events.specs.Soundness.{BuildIsSound}
-use Rattle.build_work.specs.Rings.{all_sent}
-use Rattle.build_scan.specs.SideFiles.{EachEntryOnce}
-use Rattle.build_scan.proofs.Feeding.{each_entry_once}
-use Rattle.build_scan.proofs.Sound.{runs_sound}
-use Rattle.build_halves.proofs.Sound.{runs_once}
+use Rattle.building.specs.Rings.{all_sent}
+use Rattle.table_scan.specs.SideFiles.{EachEntryOnce}
+use Rattle.table_scan.proofs.Feeding.{each_entry_once}
+use Rattle.table_scan.proofs.Sound.{runs_sound}
+use Rattle.live_lemmas.proofs.Sound.{runs_once}
 use Rattle.ready_indexes.specs.KeyCauses.{KeysAreGuarded}
 use Rattle.heap_table.specs.Sound.{HoldsFollowLog}
 use Rattle.ready_indexes.proofs.Each.{table_follows}

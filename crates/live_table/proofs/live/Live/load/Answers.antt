@@ -4,12 +4,12 @@ use Rattle.build_events.specs.BuildSteps.{Loads}
 use Rattle.build_events.specs.CoreState.{CoreState}
 use Rattle.build_events.specs.Steps.{spoiled_by}
 use Rattle.build_events.specs.Workers.{index_at}
-use Rattle.build_halves.specs.Builds.{LiveValue, core_state}
-use Rattle.build_halves.specs.Rings.{ArePut}
-use Rattle.build_work.specs.Rings.{all_sent}
-use Rattle.build_halves.proofs.Loaded.{put_inside, can_load, works_after_load, loads_after, wanted_first}
-use Rattle.build_halves.proofs.Takes.{spoiled_after}
-use Rattle.build_work.proofs.Spoiled.{load_spoils}
+use Rattle.live_lemmas.specs.Builds.{LiveValue, core_state}
+use Rattle.live_lemmas.specs.Rings.{ArePut}
+use Rattle.building.specs.Rings.{all_sent}
+use Rattle.live_lemmas.proofs.Loaded.{put_inside, can_load, works_after_load, loads_after, wanted_first}
+use Rattle.live_lemmas.proofs.Takes.{spoiled_after}
+use Rattle.building.proofs.Spoiled.{load_spoils}
 use Rattle.live_table.proofs.live.Live.load.Given as given
 use Rattle.live_table.proofs.live.Live.load.Goals as goal
 use Rattle.live_table.proofs.live.Live.load.Goals.{After-load-arg-2-1}

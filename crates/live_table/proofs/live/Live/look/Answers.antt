@@ -1,12 +1,12 @@
 use Rattle.std.proofs.Common.{◌≡◌, length, subst, arith}
 use Rattle.std.specs.Prelude.{IfSome}
 use Rattle.side_file.specs.Ends.{PutEnd}
-use Rattle.building.specs.WorkerValue.{WorkerValue}
-use Rattle.building.specs.declared.copied.Copied.{Copied}
-use Rattle.build_work.specs.Rings.{unseen}
-use Rattle.build_work.proofs.Looks.{same_rings}
-use Rattle.build_halves.proofs.Looked.{follow_looked, of_builds_looked, put_ends_looked}
-use Rattle.building.proofs.Places.{as_long, there_is}
+use Rattle.page_workers.specs.WorkerValue.{WorkerValue}
+use Rattle.page_workers.specs.declared.copied.Copied.{Copied}
+use Rattle.building.specs.Rings.{unseen}
+use Rattle.building.proofs.Looks.{same_rings}
+use Rattle.live_lemmas.proofs.Looked.{follow_looked, of_builds_looked, put_ends_looked}
+use Rattle.page_workers.proofs.Places.{as_long, there_is}
 use Rattle.live_table.proofs.live.Live.look.Goals as goal
 
 pub waiting-requires-clause-rings : goal.waiting-requires-clause-rings

@@ -4,12 +4,12 @@ use Rattle.std.specs.List.{All, slice_get}
 use Rattle.side_file.specs.Ends.{PutEnd, RingId}
 use Rattle.side_file.specs.SideFileValue.{SideFileValue}
 use Rattle.side_file.specs.declared.entry.Entry.{Entry}
-use Rattle.build_scan.specs.SideFiles.{AreFedEntries, put_ends}
-use Rattle.build_scan.proofs.Feeding.{fed_if_running}
-use Rattle.build_scan.proofs.OwnEntries.{sent_at, sent_set}
-use Rattle.building.proofs.Places.{at_index, here_set, map_at}
-use Rattle.build_scan.proofs.SideEnds.{sides_looked}
-use Rattle.build_halves.proofs.SideEnds.{put_ends_stay, eight_sides, side_is_looked, sees_side}
+use Rattle.table_scan.specs.SideFiles.{AreFedEntries, put_ends}
+use Rattle.table_scan.proofs.Feeding.{fed_if_running}
+use Rattle.table_scan.proofs.OwnEntries.{sent_at, sent_set}
+use Rattle.page_workers.proofs.Places.{at_index, here_set, map_at}
+use Rattle.table_scan.proofs.SideEnds.{sides_looked}
+use Rattle.live_lemmas.proofs.SideEnds.{put_ends_stay, eight_sides, side_is_looked, sees_side}
 use Rattle.live_table.proofs.live.Live.look_at_side.Goals as goal
 
 pub look_at_side-requires-clause-ring : goal.look_at_side-requires-clause-ring

@@ -1,6 +1,6 @@
 use Rattle.std.proofs.Common.{subst}
 use Rattle.ready_indexes.proofs.Each.{table_follows}
-use Rattle.build_halves.specs.Builds.{LiveValue}
+use Rattle.live_lemmas.specs.Builds.{LiveValue}
 use Rattle.build_events.specs.CoreState.{ReadyFollowTable}
 use Rattle.live_table.proofs.live.Live.ready.Goals as goal
 

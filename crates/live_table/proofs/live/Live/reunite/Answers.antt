@@ -1,7 +1,7 @@
 use Rattle.std.proofs.Common.{◌≡◌, ◌∙◌, length, sym, ap, subst}
-use Rattle.build_scan.specs.TableBuilds.{BuildFollows}
-use Rattle.build_halves.specs.Builds.{LiveValue}
-use Rattle.build_halves.proofs.TakenIn.{works_again}
+use Rattle.table_scan.specs.TableBuilds.{BuildFollows}
+use Rattle.live_lemmas.specs.Builds.{LiveValue}
+use Rattle.live_lemmas.proofs.TakenIn.{works_again}
 use Rattle.live_table.proofs.live.Live.reunite.Goals as goal
 
 pub returns : goal.returns

@@ -7,24 +7,24 @@ use Rattle.keybytes.specs.declared.fault.Fault.TheVariants.{RingFull}
 use Rattle.heap_table.specs.HeapState.{HeapState}
 use Rattle.heap_table.specs.Pages.{pages_written}
 use Rattle.side_file.specs.Ends.{PutEnd}
-use Rattle.building.specs.TakeEnd.{PutEndLooked}
-use Rattle.building.specs.declared.copied.Copied.{Copied}
-use Rattle.build_halves.specs.Builds.{LiveValue, StandsBeside, full_refusal, put_refusal}
-use Rattle.build_work.specs.WorkOn.{WorkMatches, WorkersFollow}
-use Rattle.build_scan.specs.TableBuilds.{BuildFollows, IsBuildOf}
+use Rattle.page_workers.specs.TakeEnd.{PutEndLooked}
+use Rattle.page_workers.specs.declared.copied.Copied.{Copied}
+use Rattle.live_lemmas.specs.Builds.{LiveValue, StandsBeside, full_refusal, put_refusal}
+use Rattle.building.specs.WorkOn.{WorkMatches, WorkersFollow}
+use Rattle.table_scan.specs.TableBuilds.{BuildFollows, IsBuildOf}
 use Rattle.build_events.specs.CoreState.{BuildState, LiveState}
-use Rattle.build_work.specs.Rings.{all_sent, AreOfBuilds}
-use Rattle.build_halves.specs.Rings.{HasPut, PagesFollow}
+use Rattle.building.specs.Rings.{all_sent, AreOfBuilds}
+use Rattle.live_lemmas.specs.Rings.{HasPut, PagesFollow}
 use Rattle.build_events.specs.Ranges.{next_page}
-use Rattle.build_scan.specs.SideFiles.{HaveEntries, SidesFollow, put_ends}
+use Rattle.table_scan.specs.SideFiles.{HaveEntries, SidesFollow, put_ends}
 use Rattle.build_events.specs.BuildSteps.{OnBuild}
-use Rattle.build_scan.proofs.LookedEnds.{all_unlooked, one_looked}
-use Rattle.building.proofs.Places.{here_set, map_at}
-use Rattle.build_scan.proofs.SideKept.{sides_next}
-use Rattle.build_scan.proofs.TableBuilds.{scanned_next}
-use Rattle.build_halves.proofs.TableBuilds.{work_of_next}
-use Rattle.build_halves.proofs.OneRing.{put_ends_set, sent_looked, sent_put, workers_looked, workers_put, builds_put, put_next, written_twice, full_at}
-use Rattle.build_halves.proofs.OneRing.{put_full, next_below, worker_below}
+use Rattle.table_scan.proofs.LookedEnds.{all_unlooked, one_looked}
+use Rattle.page_workers.proofs.Places.{here_set, map_at}
+use Rattle.table_scan.proofs.SideKept.{sides_next}
+use Rattle.table_scan.proofs.TableBuilds.{scanned_next}
+use Rattle.live_lemmas.proofs.TableBuilds.{work_of_next}
+use Rattle.live_lemmas.proofs.OneRing.{put_ends_set, sent_looked, sent_put, workers_looked, workers_put, builds_put, put_next, written_twice, full_at}
+use Rattle.live_lemmas.proofs.OneRing.{put_full, next_below, worker_below}
 use Rattle.ready_indexes.specs.Following.{AllFollow}
 use Rattle.build_events.proofs.NextPages.{no_page}
 use Rattle.live_table.proofs.live.Live.scan_step.Goals as goal

@@ -1,12 +1,12 @@
 use Rattle.std.proofs.Common.{◌≡◌, None, List, ap, sym, ◌∙◌, subst}
 use Rattle.std.specs.VecDeque.Iter.{deque_iter_rest}
 use Rattle.side_file.specs.declared.entry.Entry.{Entry}
-use Rattle.build_halves.specs.Builds.{LiveValue}
-use Rattle.build_scan.specs.SideFiles.{AreEntriesLeft, HaveEntryKeys, side_refusal}
-use Rattle.build_scan.proofs.Performed.{few_specs}
-use Rattle.build_halves.proofs.SideEnds.{eight_sides}
-use Rattle.build_scan.proofs.SideEnds.{side_there}
-use Rattle.build_scan.proofs.SideKept.{entries_left, keys_left}
+use Rattle.live_lemmas.specs.Builds.{LiveValue}
+use Rattle.table_scan.specs.SideFiles.{AreEntriesLeft, HaveEntryKeys, side_refusal}
+use Rattle.table_scan.proofs.Performed.{few_specs}
+use Rattle.live_lemmas.proofs.SideEnds.{eight_sides}
+use Rattle.table_scan.proofs.SideEnds.{side_there}
+use Rattle.table_scan.proofs.SideKept.{entries_left, keys_left}
 use Rattle.live_table.proofs.live.Live.side.Goals as goal
 
 pub returns-clause-keys : goal.returns-clause-keys

@@ -6,34 +6,34 @@ use Rattle.keybytes.specs.Keys.{KeySpecValue}
 use Rattle.keybytes.specs.declared.kind.Kind.{Kind}
 use Rattle.heap_table.specs.Pages.{pages_written}
 use Rattle.scan_range.specs.Cuts.{CutsValue}
-use Rattle.building.specs.TakeEnd.{PutEndLooked, TakeEnd}
-use Rattle.build_halves.specs.Builds.{LiveValue}
-use Rattle.build_work.specs.BuildingValue.{BuildingValue, WorkValue, work_state, fresh}
-use Rattle.build_scan.specs.TableBuilds.{build_over}
+use Rattle.page_workers.specs.TakeEnd.{PutEndLooked, TakeEnd}
+use Rattle.live_lemmas.specs.Builds.{LiveValue}
+use Rattle.building.specs.BuildingValue.{BuildingValue, WorkValue, work_state, fresh}
+use Rattle.table_scan.specs.TableBuilds.{build_over}
 use Rattle.scan_range.specs.Dealings.{dealing_refusal, dealt_ends}
 use Rattle.build_events.specs.CoreState.{BuildState, LiveState, WorkState, SpoolsState, CoreState, all_given}
-use Rattle.building.specs.SpoolValue.{SpoolValue}
-use Rattle.build_work.specs.Holding.{all_spools, fresh_maker, spools_state}
-use Rattle.build_work.specs.Equipped.{HasOwnSpools, HasRoomFor, IsFresh, IsNewMaker}
-use Rattle.build_work.specs.Keeping.{AreWorkers}
-use Rattle.building.specs.WorkerValue.{WorkerValue}
+use Rattle.page_workers.specs.SpoolValue.{SpoolValue}
+use Rattle.building.specs.Holding.{all_spools, fresh_maker, spools_state}
+use Rattle.building.specs.Equipped.{HasOwnSpools, HasRoomFor, IsFresh, IsNewMaker}
+use Rattle.building.specs.Keeping.{AreWorkers}
+use Rattle.page_workers.specs.WorkerValue.{WorkerValue}
 use Rattle.run_maker.specs.Making.{MakerValue}
-use Rattle.build_work.specs.declared.equipment.Equipment.{Equipment}
-use Rattle.build_work.specs.Rings.{all_sent, all_free, AreOfBuilds}
-use Rattle.building.proofs.Places.{as_long}
-use Rattle.build_scan.specs.SideFiles.{put_ends}
-use Rattle.build_work.proofs.LeftBeside.{at_home}
-use Rattle.build_work.proofs.Beginning.{all_first, all_fresh, as_many_fit, fresh_makers, left_empty, left_for, left_many, their_makers}
+use Rattle.building.specs.declared.equipment.Equipment.{Equipment}
+use Rattle.building.specs.Rings.{all_sent, all_free, AreOfBuilds}
+use Rattle.page_workers.proofs.Places.{as_long}
+use Rattle.table_scan.specs.SideFiles.{put_ends}
+use Rattle.building.proofs.LeftBeside.{at_home}
+use Rattle.building.proofs.Beginning.{all_first, all_fresh, as_many_fit, fresh_makers, left_empty, left_for, left_many, their_makers}
 use Rattle.build_events.specs.BuildSteps.{started, fresh_work}
-use Rattle.build_halves.proofs.Puts.{pages_started, builds_more}
-use Rattle.build_scan.proofs.OwnEntries.{sent_looked, sent_more}
-use Rattle.build_scan.proofs.SideKept.{sides_opened}
-use Rattle.build_halves.proofs.Started.{build_on, build_is_on, started_follows, put_ends_started, started_works}
+use Rattle.live_lemmas.proofs.Puts.{pages_started, builds_more}
+use Rattle.table_scan.proofs.OwnEntries.{sent_looked, sent_more}
+use Rattle.table_scan.proofs.SideKept.{sides_opened}
+use Rattle.live_lemmas.proofs.Started.{build_on, build_is_on, started_follows, put_ends_started, started_works}
 use Rattle.side_file.specs.Ends.{PutEnd}
 use Rattle.side_file.specs.declared.entry.Entry.{Entry}
 use Rattle.catch_up.specs.Built.{told_to}
-use Rattle.build_halves.proofs.Unused.{unused_ends}
-use Rattle.build_halves.proofs.Starts.{has_counts, fresh_is}
+use Rattle.live_lemmas.proofs.Unused.{unused_ends}
+use Rattle.live_lemmas.proofs.Starts.{has_counts, fresh_is}
 use Rattle.live_table.proofs.live.Live.start.Goals as goal
 
 abbrev opened : ℕ → List KeySpecValue → ℕ → ℕ → CutsValue → BuildState

@@ -1,10 +1,10 @@
 use Rattle.std.proofs.Common.{◌≡◌, ◌∙◌, length, ap, sym, subst, inl}
 use Rattle.std.proofs.lemmas.Result.{err_from_is_err_and, on_ok_weaker}
-use Rattle.build_scan.specs.TableBuilds.{BuildFollows}
-use Rattle.build_halves.specs.Builds.{LiveValue}
-use Rattle.build_halves.proofs.OwnSwitch.{own_refused, refused_after}
-use Rattle.build_halves.proofs.SentAll.{all_after_look}
-use Rattle.build_halves.proofs.SentNext.{looked_next, next_after_look}
+use Rattle.table_scan.specs.TableBuilds.{BuildFollows}
+use Rattle.live_lemmas.specs.Builds.{LiveValue}
+use Rattle.live_lemmas.proofs.OwnSwitch.{own_refused, refused_after}
+use Rattle.live_lemmas.proofs.SentAll.{all_after_look}
+use Rattle.live_lemmas.proofs.SentNext.{looked_next, next_after_look}
 use Rattle.live_table.proofs.live.Live.switch_in.Goals as goal
 
 pub returns-in_err-take_in-clause-refused : goal.returns-in_err-take_in-clause-refused

@@ -10,22 +10,22 @@ use Rattle.heap_table.specs.Pages.{KeepsRows}
 use Rattle.heap_table.specs.Kept.{RowsFit}
 use Rattle.heap_table.specs.Sound.{HoldsFollowLog}
 use Rattle.std.specs.Option.{IfSome}
-use Rattle.build_halves.specs.Builds.{LiveValue, core_state}
-use Rattle.build_work.specs.BuildingValue.{BuildingValue, WorkValue, IndexValue, work_state}
-use Rattle.build_halves.specs.CatchingUp.{IsDoneIndex, ready_of}
-use Rattle.build_work.specs.Verdicts.{its_verdict}
+use Rattle.live_lemmas.specs.Builds.{LiveValue, core_state}
+use Rattle.building.specs.BuildingValue.{BuildingValue, WorkValue, IndexValue, work_state}
+use Rattle.live_lemmas.specs.CatchingUp.{IsDoneIndex, ready_of}
+use Rattle.building.specs.Verdicts.{its_verdict}
 use Rattle.ready_indexes.specs.Following.{AllFollow, GoesOn, MayFollow, indexes_of}
 use Rattle.build_events.specs.CoreState.{BuildState, CoreState}
 use Rattle.ready_indexes.specs.Indexes.{ReadyValue}
-use Rattle.build_work.specs.Holding.{all_spools, spools_state}
+use Rattle.building.specs.Holding.{all_spools, spools_state}
 use Rattle.build_events.specs.BuildSteps.{Switches, verdicts_on}
 use Rattle.build_events.specs.Verdicts.{outcomes}
-use Rattle.build_work.proofs.OneWorker.{ended_stakes}
-use Rattle.build_scan.proofs.LookedEnds.{all_unlooked}
-use Rattle.build_halves.specs.Putting.{SendsAll, SendsNext}
-use Rattle.build_halves.proofs.SentNext.{looked_next, sends_next}
-use Rattle.build_halves.proofs.SwitchIn.{HasCaughtUp, all_done, all_keyed, all_may, all_verdicts, caught_up, switches, switched_from}
-use Rattle.build_halves.proofs.Unloaded.{may_catch_up, no_busy_cause}
+use Rattle.building.proofs.OneWorker.{ended_stakes}
+use Rattle.table_scan.proofs.LookedEnds.{all_unlooked}
+use Rattle.live_lemmas.specs.Putting.{SendsAll, SendsNext}
+use Rattle.live_lemmas.proofs.SentNext.{looked_next, sends_next}
+use Rattle.live_lemmas.proofs.SwitchIn.{HasCaughtUp, all_done, all_keyed, all_may, all_verdicts, caught_up, switches, switched_from}
+use Rattle.live_lemmas.proofs.Unloaded.{may_catch_up, no_busy_cause}
 use Rattle.live_table.proofs.live.Live.switch_own.Given as given
 use Rattle.live_table.proofs.live.Live.switch_own.Goals as goal
 use Rattle.live_table.proofs.live.Live.switch_own.Goals.{After-into_specs-specs}

@@ -1,13 +1,13 @@
 use Rattle.std.proofs.Common.{◌∙◌, refl, sym, subst}
 use Rattle.std.specs.Prelude.{IfOk, IfErr, IsSome}
 use Rattle.build_events.specs.CoreState.{CoreState}
-use Rattle.build_halves.specs.Builds.{LiveValue, core_state}
-use Rattle.build_halves.specs.Turns.{HasTurn, IsTurnRefused}
-use Rattle.build_work.specs.BuildingValue.{BuildingValue}
-use Rattle.build_halves.proofs.Looked.{ends_looked, state_looked, runs_looked}
-use Rattle.build_halves.proofs.Takes.{put_of}
-use Rattle.build_halves.proofs.Turns.{refused_after, turn_after, works_after_turn}
-use Rattle.building.proofs.Places.{below}
+use Rattle.live_lemmas.specs.Builds.{LiveValue, core_state}
+use Rattle.live_lemmas.specs.Turns.{HasTurn, IsTurnRefused}
+use Rattle.building.specs.BuildingValue.{BuildingValue}
+use Rattle.live_lemmas.proofs.Looked.{ends_looked, state_looked, runs_looked}
+use Rattle.live_lemmas.proofs.Takes.{put_of}
+use Rattle.live_lemmas.proofs.Turns.{refused_after, turn_after, works_after_turn}
+use Rattle.page_workers.proofs.Places.{below}
 use Rattle.live_table.proofs.live.Live.take.Goals as goal
 
 pub take-requires-clause-there : goal.take-requires-clause-there

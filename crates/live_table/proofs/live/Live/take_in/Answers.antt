@@ -1,5 +1,5 @@
 use Rattle.std.proofs.lemmas.Result.{err_from_is_err_and}
-use Rattle.build_halves.proofs.TakenIn.{all_only, first_none, kept_early, kept_foreign, kept_left, now_taken, same_state, sides_only, state_taken, was_taken, works_same, works_taken}
+use Rattle.live_lemmas.proofs.TakenIn.{all_only, first_none, kept_early, kept_foreign, kept_left, now_taken, same_state, sides_only, state_taken, was_taken, works_same, works_taken}
 use Rattle.live_table.proofs.live.Live.take_in.Goals as goal
 
 pub returns-then-not-is_part-clause-state : goal.returns-then-not-is_part-clause-state

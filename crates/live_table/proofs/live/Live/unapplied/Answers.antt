@@ -1,9 +1,9 @@
 use Rattle.std.proofs.Common.{◌≡◌, ℕ, Option, length, ap, ◌∙◌, sym, subst, arith}
-use Rattle.build_halves.specs.Builds.{core_state}
+use Rattle.live_lemmas.specs.Builds.{core_state}
 use Rattle.build_events.specs.CoreState.{BuildState, CoreState}
 use Rattle.build_events.specs.BuildSteps.{OnBuild}
 use Rattle.build_events.specs.Workers.{all_unapplied}
-use Rattle.build_halves.proofs.LeftOver.{all_left, indexes_many, left_before}
+use Rattle.live_lemmas.proofs.LeftOver.{all_left, indexes_many, left_before}
 use Rattle.live_table.proofs.live.Live.unapplied.Goals as goal
 
 pub returns : goal.returns

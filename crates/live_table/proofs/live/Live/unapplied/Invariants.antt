@@ -1,6 +1,6 @@
 use Rattle.std.proofs.Common.{◌≡◌, ◌≤◌, ◌*◌, ◌^◌}
-use Rattle.build_halves.specs.Builds.{core_state}
-use Rattle.build_halves.proofs.LeftOver.{left_before}
+use Rattle.live_lemmas.specs.Builds.{core_state}
+use Rattle.live_lemmas.proofs.LeftOver.{left_before}
 use Rattle.live_table.proofs.live.Live.unapplied.Given as goal
 
 abbrev pub invariant-loop-index : goal.invariant-loop-index

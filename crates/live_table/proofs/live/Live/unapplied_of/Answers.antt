@@ -1,11 +1,11 @@
 use Rattle.std.proofs.Common.{◌≡◌, ◌+◌, ◌-◌, ◌≤◌, List, length, sym, ap, ◌∙◌, subst, arith}
 use Rattle.side_file.specs.SideFileValue.{SideFileValue}
-use Rattle.build_halves.specs.Builds.{LiveValue, core_state}
-use Rattle.build_halves.specs.CatchingUp.{left_at}
-use Rattle.build_scan.specs.TableBuilds.{BuildFollows}
-use Rattle.build_scan.specs.SideFiles.{SidesFollow}
-use Rattle.build_halves.proofs.LeftOver.{left_known}
-use Rattle.build_halves.proofs.SideEnds.{eight_sides}
+use Rattle.live_lemmas.specs.Builds.{LiveValue, core_state}
+use Rattle.live_lemmas.specs.CatchingUp.{left_at}
+use Rattle.table_scan.specs.TableBuilds.{BuildFollows}
+use Rattle.table_scan.specs.SideFiles.{SidesFollow}
+use Rattle.live_lemmas.proofs.LeftOver.{left_known}
+use Rattle.live_lemmas.proofs.SideEnds.{eight_sides}
 use Rattle.live_table.proofs.live.Live.unapplied_of.Given as given
 use Rattle.live_table.proofs.live.Live.unapplied_of.Goals as goal
 use Rattle.live_table.proofs.live.Live.unapplied_of.Goals.{After-applied}

@@ -2,7 +2,7 @@ use Rattle.std.proofs.Common.{Ok, ap, subst, ◌∙◌}
 use Rattle.keybytes.specs.Answered.{Answered}
 use Rattle.heap_table.specs.Calls.{Undoes}
 use Rattle.heap_table.specs.HeapState.{HeapState, undo_refusal}
-use Rattle.build_halves.specs.Builds.{LiveValue}
+use Rattle.live_lemmas.specs.Builds.{LiveValue}
 use Rattle.build_events.specs.CoreState.{LiveState, live_with_heap}
 use Rattle.build_events.specs.Steps.{OnRows}
 use Rattle.build_events.proofs.ReadyFollow.{by_state, ends_without}

@@ -1,5 +1,5 @@
-use Rattle.build_halves.proofs.Looked.{follow_looked, of_builds_looked, put_ends_looked}
-use Rattle.build_halves.proofs.LowestUnsealed.{lowest_told}
+use Rattle.live_lemmas.proofs.Looked.{follow_looked, of_builds_looked, put_ends_looked}
+use Rattle.live_lemmas.proofs.LowestUnsealed.{lowest_told}
 use Rattle.live_table.proofs.live.Live.unsealed.Goals as goal
 
 pub first_unsealed-requires : goal.first_unsealed-requires

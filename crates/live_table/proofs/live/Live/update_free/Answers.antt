@@ -1,7 +1,7 @@
 use Rattle.std.proofs.Common.{◌≡◌, ◌∙◌, None, Some, ap, subst, sym}
 use Rattle.heap_log.specs.Standing.{live_at}
 use Rattle.heap_table.specs.HeapState.{HeapState, update_refusal}
-use Rattle.build_halves.specs.Builds.{LiveValue}
+use Rattle.live_lemmas.specs.Builds.{LiveValue}
 use Rattle.ready_indexes.specs.KeyCauses.{keys_refusal}
 use Rattle.keybytes.proofs.FirstCause.{both_none}
 use Rattle.ready_indexes.proofs.Each.{let_in_by}

@@ -3,12 +3,12 @@ use Rattle.std.proofs.lemmas.List.{length-map}
 use Rattle.side_file.specs.Ends.{PutEnd}
 use Rattle.side_file.specs.SideFileValue.{SideFileValue}
 use Rattle.side_file.specs.declared.entry.Entry.{Entry}
-use Rattle.building.specs.TakeEnd.{TakeEnd, take_end}
-use Rattle.building.specs.IntakeValue.{IntakeValue}
-use Rattle.building.specs.declared.copied.Copied.{Copied}
+use Rattle.page_workers.specs.TakeEnd.{TakeEnd, take_end}
+use Rattle.page_workers.specs.IntakeValue.{IntakeValue}
+use Rattle.page_workers.specs.declared.copied.Copied.{Copied}
 use Rattle.std.specs.Prelude.{map}
-use Rattle.build_scan.specs.SideFiles.{put_ends}
-use Rattle.building.proofs.Places.{as_long}
+use Rattle.table_scan.specs.SideFiles.{put_ends}
+use Rattle.page_workers.proofs.Places.{as_long}
 use Rattle.live_table.proofs.parts.Parts.new.Goals as goal
 
 pub invariant_of-result : goal.invariant_of-result

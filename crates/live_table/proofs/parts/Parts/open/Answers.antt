@@ -1,8 +1,8 @@
 use Rattle.std.proofs.Common.{◌≡◌, [], sym, subst}
 use Rattle.std.specs.List.{All}
-use Rattle.build_scan.specs.SideFiles.{put_ends}
-use Rattle.build_scan.proofs.OwnEntries.{nothing_sent}
-use Rattle.build_halves.specs.Builds.{LiveValue}
+use Rattle.table_scan.specs.SideFiles.{put_ends}
+use Rattle.table_scan.proofs.OwnEntries.{nothing_sent}
+use Rattle.live_lemmas.specs.Builds.{LiveValue}
 use Rattle.live_table.proofs.parts.Parts.open.Goals as goal
 
 pub returns-clause-no_copies : goal.returns-clause-no_copies

@@ -3,7 +3,7 @@ use Rattle.std.specs.List.{slice_get}
 use Rattle.std.specs.VecDeque.Iter.{deque_iter_rest}
 use Rattle.build_events.specs.BuildSteps.{OnBuild}
 use Rattle.build_events.specs.CoreState.{LiveState}
-use Rattle.build_scan.specs.SideFiles.{AreEntriesLeft}
+use Rattle.table_scan.specs.SideFiles.{AreEntriesLeft}
 use Rattle.replay.proofs.KeyedPairs.{entry_keys}
 use Rattle.replay.proofs.session.Session.side_lines.Goals as goal
 

@@ -10,9 +10,9 @@ use Rattle.std.specs.declared.alloc.Global.{Global}
 use Rattle.std.proofs.Crossing.{frees}
 use Rattle.std.proofs.alloc.Global.TheSendSync as heap
 use Rattle.std_alloc.proofs.SendSync.{lies}
-use Rattle.embedding.specs.KeptTables.{KeptValue}
-use Rattle.embedding.specs.contracts.kept.Kept as Kept
-use Rattle.embedding.proofs.Crosses.{kept_send}
+use Rattle.kept_table.specs.KeptTables.{KeptValue}
+use Rattle.kept_table.specs.contracts.kept.Kept as Kept
+use Rattle.kept_table.proofs.Crosses.{kept_send}
 use Rattle.sfbuild_c.specs.Owned.{table_owns}
 use Rattle.sfbuild_c.specs.contracts.held.Held.{the_row, the_type}
 

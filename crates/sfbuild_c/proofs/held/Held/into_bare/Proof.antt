@@ -26,7 +26,7 @@ use Rattle.std.specs.Box.Ownership.{box_owns}
 use Rattle.std.specs.Prelude.{Option, Some, None, is_some, true}
 use Rattle.std.specs.contracts.alloc.Global.{the_row as Heap}
 use Rattle.std.specs.contracts.impls.GlobalAllocator.TheImpl.{ghosts}
-use Rattle.embedding.specs.contracts.kept.Kept.{the_row as Kept}
+use Rattle.kept_table.specs.contracts.kept.Kept.{the_row as Kept}
 use Rattle.sfbuild_c.specs.Owned.{table_owns}
 use Rattle.sfbuild_c.proofs.Apart.{ptr_fits, word, word_fits, pair_out, pair_in}
 use Rattle.sfbuild_c.specs.contracts.held.Held as held

@@ -22,7 +22,7 @@ use Rattle.std.proofs.alloc.Global.TheLaws.{the_row_laws as heap_laws}
 use Rattle.std.specs.Prelude.{Some}
 use Rattle.std.specs.contracts.alloc.Global.{the_row as Heap}
 use Rattle.std.specs.contracts.impls.GlobalAllocator.TheImpl.{ghosts}
-use Rattle.embedding.specs.contracts.kept.Kept.{the_row as Kept}
+use Rattle.kept_table.specs.contracts.kept.Kept.{the_row as Kept}
 use Rattle.sfbuild_c.specs.Owned.{table_owns}
 use Rattle.sfbuild_c.proofs.Apart.{ptr_fits, word, word_fits, pair_out, pair_in}
 use Rattle.sfbuild_c.specs.contracts.bare.Bare as bare

@@ -1,5 +1,0 @@
-use Rattle.build_work.specs.Working.{HasApplied}
-use Rattle.build_work.proofs.beside.Building.apply.Given as goal
-
-abbrev pub invariant-loop : goal.invariant-loop
-invariant-loop g l = HasApplied l.index l.initial.self l.counter l.self

@@ -1,6 +1,0 @@
-use Rattle.std.proofs.Common.{All, take}
-use Rattle.build_work.specs.Keeping.{KeepsLaws}
-use Rattle.build_work.proofs.rings.laws_of.Given as goal
-
-abbrev pub invariant-loop-worker : goal.invariant-loop-worker
-invariant-loop-worker g l = All (KeepsLaws g.T.Table.pages) (take l.worker-index l.workers)

@@ -1,8 +1,0 @@
-use Rattle.std.proofs.Common.{◌≡◌, ◌<◌, ℕ, true, Some}
-use Rattle.std.specs.Prelude.{is_some}
-use Rattle.std.specs.List.{slice_get}
-use Rattle.build_work.specs.BuildingValue.{IndexValue}
-use Rattle.build_work.proofs.work.Work.first_unloaded.Given as goal
-
-abbrev pub invariant-loop-index : goal.invariant-loop-index
-invariant-loop-index l = (k : ℕ) (it : IndexValue) → k < l.index → slice_get l.self.indexes k ≡ Some it → is_some it.built ≡ true

@@ -1,5 +1,0 @@
-pub mod BadRows
-pub mod Cells
-pub mod Fillings
-pub mod Failures
-pub mod Headers

@@ -1,6 +1,0 @@
-use Rattle.std.proofs.Common.{arith}
-use Rattle.known_log.proofs.Moves.{begins}
-use Rattle.known_log.proofs.unnamed.Unnamed.new.Goals as goal
-
-pub of_words-requires : goal.of_words-requires
-of_words-requires c = begins _ _ c.records-len.ensures (omega arith)

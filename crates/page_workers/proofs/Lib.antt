@@ -1,0 +1,12 @@
+pub mod Digests
+pub mod Holding
+pub mod Keeping
+pub mod ManyPairs
+pub mod PageCopies
+pub mod Places
+pub mod Received
+pub mod Rings
+pub mod SamePairs
+pub mod SpoolViews
+pub mod Taking
+pub mod Turns

@@ -1,0 +1,10 @@
+pub mod Copies
+pub mod Holding
+pub mod ImagePairs
+pub mod TakeEnd
+pub mod Taking
+pub mod Work
+pub mod IntakeValue
+pub mod SpoolValue
+pub mod WorkerValue
+pub mod Turns

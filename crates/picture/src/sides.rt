@@ -1,0 +1,76 @@
+//! The side-files of a build, as they are before a command and behind it.
+
+ghost use Rattle.std.specs.List.{All};
+ghost use Rattle.std.specs.VecDeque.Iter.{deque_iter_rest};
+ghost use Rattle.keybytes.specs.Keys.{IsKeyOf};
+
+use crate::failure::Failure;
+use crate::words::key_at;
+use builder_core::{Core, Entry, INDEXES_MAX, Op, Table};
+use keybytes::KeySpec;
+use spool_kinds::SpoolOfKind;
+use std::alloc::Global;
+use std::collections::vec_deque::Iter;
+use timeline_svg::{Mark, MarkKind};
+
+/// How many entries the side-file of each index has that aren't fed yet; none where no build runs.
+pub fn counts<T: Table>(alloc: Global, core: &Core<SpoolOfKind, T>) -> Result<Vec<usize>, Failure> {
+    let mut counts = Vec::new(alloc);
+    for index in 0..INDEXES_MAX {
+        let Ok(entries) = core.live().side(index) else {
+            break;
+        };
+        counts.push(entries.len())?;
+    }
+    Ok(counts)
+}
+
+/// Adds a mark in the lane for each entry of an index's side-file behind the first so many.
+pub fn mark_added<T: Table>(
+    alloc: Global,
+    core: &Core<SpoolOfKind, T>,
+    index: usize,
+    before: usize,
+    lane: usize,
+    marks: &mut Vec<Mark>,
+) -> Result<(), Failure> {
+    let live = core.live();
+    let spec = live.spec(index)?;
+    let entries = live.side(index)?;
+    mark_behind(alloc, spec, entries, before, lane, marks)
+}
+
+fn mark_behind(
+    alloc: Global,
+    spec: &KeySpec,
+    entries: Iter<'_, Entry>,
+    before: usize,
+    lane: usize,
+    marks: &mut Vec<Mark>,
+) -> Result<(), Failure>
+    requires { All (λ entry. IsKeyOf spec.now entry.key) (deque_iter_rest entries) }
+{
+    let mut place = 0usize;
+    for entry in entries {
+        if place >= before {
+            marks.push(mark_of(alloc, spec, entry, lane)?)?;
+        }
+        place = place.saturating_add(1);
+    }
+    Ok(())
+}
+
+fn mark_of(alloc: Global, spec: &KeySpec, entry: &Entry, lane: usize) -> Result<Mark, Failure>
+    requires { IsKeyOf spec.now entry.now.key }
+{
+    let cells = spec.cells(&entry.key)?;
+    let kind = match entry.op {
+        Op::Delete => MarkKind::Delete,
+        Op::Insert => MarkKind::Insert,
+    };
+    Ok(Mark {
+        lane,
+        kind,
+        text: key_at(alloc, cells.as_slice(), entry.rid)?,
+    })
+}

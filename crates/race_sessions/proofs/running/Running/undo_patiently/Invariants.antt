@@ -1,6 +1,0 @@
-use Rattle.race_sessions.specs.Commands.{LosesNothing}
-use Rattle.race_sessions.proofs.running.Running.undo_patiently.Given as goal
-
-abbrev pub invariant-loop : goal.invariant-loop
-invariant-loop g l =
-    LosesNothing (record { log = l.initial.session; receipts = l.initial.self.receipts.items }) (record { log = l.session; receipts = l.self.receipts.items })

@@ -1,4 +1,0 @@
-pub mod Dealt
-pub mod Heads
-pub mod InOrder
-pub mod Parts

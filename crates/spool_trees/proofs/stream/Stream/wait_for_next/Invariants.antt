@@ -1,5 +1,0 @@
-use Rattle.std.proofs.Common.{◌≡◌}
-use Rattle.spool_trees.proofs.stream.Stream.wait_for_next.Given as goal
-
-abbrev pub invariant-loop : goal.invariant-loop
-invariant-loop g l = l.self.pairs ≡ l.initial.self.pairs
