@@ -1,0 +1,213 @@
+//! Cases of all layers, by tables, and what runs them.
+
+use crate::calling::{finds_both, finds_least, rolls_back};
+use crate::desk::first_other;
+use crate::logs::{self, Records};
+use crate::merges::{self, Course};
+use crate::nodes::{fan_answers, leaf_answers};
+use crate::pools::{reclaims, refuses};
+use crate::ranges::{self, Plan};
+use crate::rows::{self, Rows};
+use crate::spools::{keeps_boxed, keeps_plain};
+use crate::tables::{self, Shape};
+use crate::trees::{self, Grown};
+use crate::{entries, pages, workers};
+use keybytes::Fault;
+use slotted_page::Page;
+use std::alloc::Global;
+
+/// The first step that is answered otherwise than it is to be, or why there are none to ask.
+pub type Told = Result<Option<usize>, Fault>;
+
+pub const DONE: Told = Ok(None);
+
+/// Something of a layer, with its steps.
+pub enum Layer {
+    Rows(&'static [rows::Step]),
+    /// A page with so many slots.
+    Page(u8, &'static [pages::Step]),
+    Log(&'static [logs::Step]),
+    Table(Shape, &'static [tables::Step]),
+    Ranges(Plan, &'static [ranges::Step]),
+    Entries(entries::Index, &'static [entries::Step]),
+    Tree(&'static [trees::Step]),
+    Merges(Course),
+    Worker(&'static [workers::Step]),
+    Alone(Alone),
+}
+
+/// What has no steps.
+pub enum Alone {
+    Leaf,
+    Fan,
+    /// A pool of four pages refuses these quotas.
+    Refuses(&'static [u32]),
+    /// A pool reclaims its accounts, of which the first gave its page back, or didn't.
+    Reclaims(bool),
+    /// A spool of so many pages takes so many pairs.
+    Keeps(u32, u32),
+    KeepsBoxed(u32, u32),
+    RollsBack,
+    FindsBoth,
+    FindsLeast,
+}
+
+pub struct Case {
+    pub name: &'static str,
+    pub layer: Layer,
+    pub told: Told,
+}
+
+static OTHERS: [Case; 14] = [
+    Case {
+        name: "a tree of 1,000 pairs",
+        layer: Layer::Tree(trees::CASE),
+        told: DONE,
+    },
+    Case {
+        name: "pages go through a ring",
+        layer: Layer::Worker(workers::CASE),
+        told: DONE,
+    },
+    Case {
+        name: "a leaf",
+        layer: Layer::Alone(Alone::Leaf),
+        told: DONE,
+    },
+    Case {
+        name: "a fan",
+        layer: Layer::Alone(Alone::Fan),
+        told: DONE,
+    },
+    Case {
+        name: "quotas of more pages than there are",
+        layer: Layer::Alone(Alone::Refuses(&[1, 4])),
+        told: DONE,
+    },
+    Case {
+        name: "a quota of more pages than there are",
+        layer: Layer::Alone(Alone::Refuses(&[5])),
+        told: DONE,
+    },
+    Case {
+        name: "a page that is missing",
+        layer: Layer::Alone(Alone::Reclaims(false)),
+        told: DONE,
+    },
+    Case {
+        name: "no page is missing",
+        layer: Layer::Alone(Alone::Reclaims(true)),
+        told: DONE,
+    },
+    Case {
+        name: "a plain spool",
+        layer: Layer::Alone(Alone::Keeps(2, 300)),
+        told: DONE,
+    },
+    Case {
+        name: "a plain spool whose page is full",
+        layer: Layer::Alone(Alone::Keeps(1, 240)),
+        told: DONE,
+    },
+    Case {
+        name: "a spool in a box",
+        layer: Layer::Alone(Alone::KeepsBoxed(2, 300)),
+        told: DONE,
+    },
+    Case {
+        name: "a rollback brings the row back",
+        layer: Layer::Alone(Alone::RollsBack),
+        told: DONE,
+    },
+    Case {
+        name: "a tree gives the RIDs of a key",
+        layer: Layer::Alone(Alone::FindsBoth),
+        told: DONE,
+    },
+    Case {
+        name: "the last row has the least key",
+        layer: Layer::Alone(Alone::FindsLeast),
+        told: DONE,
+    },
+];
+
+fn all() -> [&'static [Case]; 8] {
+    [
+        &rows::CASES,
+        &pages::CASES,
+        &logs::CASES,
+        &tables::CASES,
+        &ranges::CASES,
+        &entries::CASES,
+        &merges::CASES,
+        &OTHERS,
+    ]
+}
+
+fn told(alloc: Global, layer: &Layer) -> Told {
+    match layer {
+        Layer::Rows(steps) => first_other(&mut Rows(alloc), steps),
+        Layer::Page(slots, steps) => first_other(&mut Page::new(*slots)?, steps),
+        Layer::Log(steps) => first_other(&mut Records::new(alloc), steps),
+        Layer::Table(shape, steps) => tables::told(alloc, shape, steps),
+        Layer::Ranges(plan, steps) => ranges::told(alloc, plan, steps),
+        Layer::Entries(index, steps) => entries::told(alloc, index, steps),
+        Layer::Tree(steps) => first_other(&mut Grown::new(alloc), steps),
+        Layer::Merges(course) => merges::is_told(alloc, course).map(other_if),
+        Layer::Worker(steps) => workers::told(alloc, steps),
+        Layer::Alone(alone) => is_told(alloc, alone).map(other_if),
+    }
+}
+
+fn other_if(is_told: bool) -> Option<usize> {
+    if is_told { None } else { Some(0) }
+}
+
+fn is_told(alloc: Global, alone: &Alone) -> Result<bool, Fault> {
+    match *alone {
+        Alone::Leaf => leaf_answers(alloc),
+        Alone::Fan => fan_answers(alloc),
+        Alone::Refuses(quotas) => refuses(alloc, quotas),
+        Alone::Reclaims(gives_back) => reclaims(alloc, gives_back),
+        Alone::Keeps(pages, count) => keeps_plain(alloc, pages, count),
+        Alone::KeepsBoxed(pages, count) => keeps_boxed(alloc, pages, count),
+        Alone::RollsBack => rolls_back(alloc),
+        Alone::FindsBoth => finds_both(alloc),
+        Alone::FindsLeast => finds_least(alloc),
+    }
+}
+
+/// What is refused for want of memory is asked for once more.
+fn told_again(alloc: Global, layer: &Layer) -> Told {
+    match told(alloc, layer) {
+        Err(Fault::Memory) => told(alloc, layer),
+        told => told,
+    }
+}
+
+/// The first of these cases that is told otherwise.
+fn told_otherwise(alloc: Global, cases: &'static [Case]) -> Option<(&'static str, Told)> {
+    for case in cases {
+        let told = told_again(alloc, &case.layer);
+        if told != case.told {
+            return Some((case.name, told));
+        }
+    }
+    None
+}
+
+/// The same of all cases.
+fn any_told_otherwise(alloc: Global) -> Option<(&'static str, Told)> {
+    for cases in all() {
+        let other = told_otherwise(alloc, cases);
+        if other.is_some() {
+            return other;
+        }
+    }
+    None
+}
+
+#[test]
+fn are_told_where_memory_may_run_out(rt: HostRuntime) {
+    assert_eq!(rt; any_told_otherwise(rt.alloc()), None);
+}
