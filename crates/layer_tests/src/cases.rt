@@ -131,7 +131,7 @@ static OTHERS: [Case; 14] = [
     },
 ];
 
-fn all() -> [&'static [Case]; 8] {
+fn all() -> [&'static [Case]; 9] {
     [
         &rows::CASES,
         &pages::CASES,
@@ -139,6 +139,7 @@ fn all() -> [&'static [Case]; 8] {
         &tables::CASES,
         &ranges::CASES,
         &entries::CASES,
+        &entries::VERDICTS,
         &merges::CASES,
         &OTHERS,
     ]
