@@ -1,4 +1,5 @@
 //! A side-file, the index that its entries are applied to, and the verdict on it.
+ghost use Rattle.std.specs.Prelude.{◌≡◌};
 ghost use Rattle.side_file.specs.Ends.{ring_take};
 
 mod cases;

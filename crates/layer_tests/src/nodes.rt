@@ -1,5 +1,5 @@
 //! The calls of a leaf and of a fan.
-ghost use Rattle.tree_nodes.specs.FanValue.{IsBlankFan};
+ghost use Rattle.tree_nodes.specs.Fans.{IsBlankFan};
 
 use crate::fixtures::{pair, rid};
 use keybytes::{Fault, Pair};

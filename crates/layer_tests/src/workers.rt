@@ -5,9 +5,9 @@ use crate::desk::{Desk, first_other};
 use crate::fixtures::{add_rows, empty_table};
 use crate::merges::maker;
 use crate::spools::plain_spool;
-use page_workers::{Copied, Intake, PagePutter, Worker, page_ring};
 use heap_table::{Heap, PageImage};
 use keybytes::{Fault, Key, Rid};
+use page_workers::{Copied, Intake, PagePutter, Worker, page_ring};
 use run_spool::{PlainSpool, Spool};
 use std::alloc::Global;
 
