@@ -4,13 +4,11 @@ use crate::calling::{finds_both, finds_least, rolls_back};
 use crate::desk::first_other;
 use crate::logs::{self, Records};
 use crate::merges::{self, Course};
-use crate::nodes::{fan_answers, leaf_answers};
 use crate::pools::{reclaims, refuses};
-use crate::ranges::{self, Plan};
 use crate::rows::{self, Rows};
 use crate::spools::{keeps_boxed, keeps_plain};
 use crate::tables::{self, Shape};
-use crate::trees::{self, Grown};
+use crate::trees::tree_answers;
 use crate::{entries, pages, workers};
 use keybytes::Fault;
 use slotted_page::Page;
@@ -28,9 +26,7 @@ pub enum Layer {
     Page(u8, &'static [pages::Step]),
     Log(&'static [logs::Step]),
     Table(Shape, &'static [tables::Step]),
-    Ranges(Plan, &'static [ranges::Step]),
-    Entries(entries::Index, &'static [entries::Step]),
-    Tree(&'static [trees::Step]),
+    Entries(&'static [entries::Step]),
     Merges(Course),
     Worker(&'static [workers::Step]),
     Alone(Alone),
@@ -38,8 +34,7 @@ pub enum Layer {
 
 /// What has no steps.
 pub enum Alone {
-    Leaf,
-    Fan,
+    Tree,
     /// A pool of four pages refuses these quotas.
     Refuses(&'static [u32]),
     /// A pool reclaims its accounts, of which the first gave its page back, or didn't.
@@ -58,25 +53,15 @@ pub struct Case {
     pub told: Told,
 }
 
-static OTHERS: [Case; 14] = [
+static OTHERS: [Case; 12] = [
     Case {
         name: "a tree of 1,000 pairs",
-        layer: Layer::Tree(trees::CASE),
+        layer: Layer::Alone(Alone::Tree),
         told: DONE,
     },
     Case {
         name: "pages go through a ring",
         layer: Layer::Worker(workers::CASE),
-        told: DONE,
-    },
-    Case {
-        name: "a leaf",
-        layer: Layer::Alone(Alone::Leaf),
-        told: DONE,
-    },
-    Case {
-        name: "a fan",
-        layer: Layer::Alone(Alone::Fan),
         told: DONE,
     },
     Case {
@@ -131,15 +116,13 @@ static OTHERS: [Case; 14] = [
     },
 ];
 
-fn all() -> [&'static [Case]; 9] {
+fn all() -> [&'static [Case]; 7] {
     [
         &rows::CASES,
         &pages::CASES,
         &logs::CASES,
         &tables::CASES,
-        &ranges::CASES,
         &entries::CASES,
-        &entries::VERDICTS,
         &merges::CASES,
         &OTHERS,
     ]
@@ -151,9 +134,7 @@ fn told(alloc: Global, layer: &Layer) -> Told {
         Layer::Page(slots, steps) => first_other(&mut Page::new(*slots)?, steps),
         Layer::Log(steps) => first_other(&mut Records::new(alloc), steps),
         Layer::Table(shape, steps) => tables::told(alloc, shape, steps),
-        Layer::Ranges(plan, steps) => ranges::told(alloc, plan, steps),
-        Layer::Entries(index, steps) => entries::told(alloc, index, steps),
-        Layer::Tree(steps) => first_other(&mut Grown::new(alloc), steps),
+        Layer::Entries(steps) => entries::told(alloc, steps),
         Layer::Merges(course) => merges::is_told(alloc, course).map(other_if),
         Layer::Worker(steps) => workers::told(alloc, steps),
         Layer::Alone(alone) => is_told(alloc, alone).map(other_if),
@@ -166,8 +147,7 @@ fn other_if(is_told: bool) -> Option<usize> {
 
 fn is_told(alloc: Global, alone: &Alone) -> Result<bool, Fault> {
     match *alone {
-        Alone::Leaf => leaf_answers(alloc),
-        Alone::Fan => fan_answers(alloc),
+        Alone::Tree => tree_answers(alloc),
         Alone::Refuses(quotas) => refuses(alloc, quotas),
         Alone::Reclaims(gives_back) => reclaims(alloc, gives_back),
         Alone::Keeps(pages, count) => keeps_plain(alloc, pages, count),

@@ -16,13 +16,9 @@ mod logs;
 #[cfg(test)]
 mod merges;
 #[cfg(test)]
-mod nodes;
-#[cfg(test)]
 mod pages;
 #[cfg(test)]
 mod pools;
-#[cfg(test)]
-mod ranges;
 #[cfg(test)]
 mod rows;
 #[cfg(test)]

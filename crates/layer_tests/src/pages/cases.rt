@@ -9,19 +9,15 @@ const LONG: &[u8] = &[1; MAX_ROW_SIZE];
 
 const OTHER: &[u8] = &[2; MAX_ROW_SIZE];
 
-/// What stands in a copy between the slots of two rows and the rows "defgh" and "abc".
+/// What stands in a copy between two slots and the rows "defgh" and "abc".
 const UNUSED: &[u8] = &[0; 4068];
 
-pub static CASES: [Case; 10] = [
+pub static CASES: [Case; 9] = [
     Case {
         name: "an empty page",
         layer: Layer::Page(
             255,
-            &[
-                Step::Rows(&[]),
-                Step::Greatest(4082),
-                Step::Copy(&[(4, &[0x10, 0])]),
-            ],
+            &[Step::Greatest(4082), Step::Copy(&[], &[(4, &[0x10, 0])])],
         ),
         told: DONE,
     },
@@ -31,9 +27,8 @@ pub static CASES: [Case; 10] = [
             255,
             &[
                 Step::Insert(LONG, Ok(0)),
-                Step::Rows(&[LONG]),
                 Step::Greatest(2852),
-                Step::Copy(&[(4, &[0x0b, 0x38])]),
+                Step::Copy(&[Some(LONG)], &[(4, &[0x0b, 0x38])]),
             ],
         ),
         told: DONE,
@@ -45,13 +40,11 @@ pub static CASES: [Case; 10] = [
             &[
                 Step::Insert(LONG, Ok(0)),
                 Step::Update(0, b"short"),
-                Step::Rows(&[b"short"]),
                 Step::Greatest(2852),
-                Step::Copy(&[(4, &[0x0b, 0x38])]),
+                Step::Copy(&[Some(b"short")], &[(4, &[0x0b, 0x38])]),
                 Step::Trim(0),
-                Step::Rows(&[b"short"]),
                 Step::Greatest(4071),
-                Step::Copy(&[(4, &[0x0b, 0x38])]),
+                Step::Copy(&[Some(b"short")], &[(4, &[0x0b, 0x38])]),
             ],
         ),
         told: DONE,
@@ -63,9 +56,8 @@ pub static CASES: [Case; 10] = [
             &[
                 Step::Insert(LONG, Ok(0)),
                 Step::Hold(0),
-                Step::Rows(&[]),
                 Step::Greatest(2852),
-                Step::Copy(&[(4, &[0x0b, 0x38])]),
+                Step::Copy(&[None], &[(4, &[0x0b, 0x38])]),
             ],
         ),
         told: DONE,
@@ -79,9 +71,8 @@ pub static CASES: [Case; 10] = [
                 Step::Hold(0),
                 Step::Free(0),
                 Step::Insert(b"x", Ok(0)),
-                Step::Rows(&[b"x"]),
                 Step::Greatest(4075),
-                Step::Copy(&[(4, &[0x0f, 0xfc])]),
+                Step::Copy(&[Some(b"x")], &[(4, &[0x0f, 0xfc])]),
             ],
         ),
         told: DONE,
@@ -97,9 +88,11 @@ pub static CASES: [Case; 10] = [
                 Step::Hold(0),
                 Step::Free(0),
                 Step::Insert(OTHER, Ok(0)),
-                Step::Rows(&[OTHER, OTHER, LONG]),
                 Step::Greatest(392),
-                Step::Copy(&[(4, &[0x01, 0xa8])]),
+                Step::Copy(
+                    &[Some(OTHER), Some(OTHER), Some(LONG)],
+                    &[(4, &[0x01, 0xa8])],
+                ),
             ],
         ),
         told: DONE,
@@ -121,11 +114,6 @@ pub static CASES: [Case; 10] = [
         told: DONE,
     },
     Case {
-        name: "a row that comes back",
-        layer: Layer::Page(1, &[Step::ComesBack]),
-        told: DONE,
-    },
-    Case {
         name: "the copy of a row, and of a slot that is held",
         layer: Layer::Page(
             255,
@@ -133,13 +121,16 @@ pub static CASES: [Case; 10] = [
                 Step::Insert(b"abc", Ok(0)),
                 Step::Insert(b"defgh", Ok(1)),
                 Step::Hold(1),
-                Step::Copy(&[
-                    (0, &[0x53, 0x50, 0, 2, 0x0f, 0xf8, 0, 0]),
-                    (8, &[0x0f, 0xfd, 0, 3, 0, 3]),
-                    (14, &[0, 0, 0xff, 0xff, 0, 5]),
-                    (20, UNUSED),
-                    (4088, b"defghabc"),
-                ]),
+                Step::Copy(
+                    &[Some(b"abc"), None],
+                    &[
+                        (0, &[0x53, 0x50, 0, 2, 0x0f, 0xf8, 0, 0]),
+                        (8, &[0x0f, 0xfd, 0, 3, 0, 3]),
+                        (14, &[0, 0, 0xff, 0xff, 0, 5]),
+                        (20, UNUSED),
+                        (4088, b"defghabc"),
+                    ],
+                ),
             ],
         ),
         told: DONE,

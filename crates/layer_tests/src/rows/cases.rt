@@ -1,6 +1,6 @@
 //! The cases of rows, keys and refusals.
 
-use super::{Changed, Keyed, Known, Step};
+use super::{Keyed, Known, Step};
 use crate::cases::{Case, DONE, Layer};
 use crate::fixtures::UP;
 use keybytes::{Fault, KeyCol, Kind, Rid};
@@ -23,16 +23,9 @@ const MIXED: &[Kind] = &[Kind::Int, Kind::Text, Kind::Int, Kind::Flag];
 const NUMBERS: Keyed = Keyed {
     kinds: INT,
     columns: &[UP],
-    below: None,
     row: b"",
-    key: None,
+    key: b"",
     fault: None,
-};
-
-/// An index of the numbers below 5.
-const BELOW_FIVE: Keyed = Keyed {
-    below: Some(5),
-    ..NUMBERS
 };
 
 /// Bytes that are no row of the mixed columns.
@@ -48,67 +41,58 @@ const REFUSED: Keyed = Keyed {
     ..NUMBERS
 };
 
-/// An update that the build sees.
-const UPDATE: Changed = Changed {
-    old: b"a",
-    new: b"b",
-    is_visible: true,
-    delete: None,
-    insert: None,
-};
-
-pub static CASES: [Case; 7] = [
+pub static CASES: [Case; 4] = [
     Case {
         name: "rows and their keys",
         layer: Layer::Rows(&[
             // -5, the least number, -1, 0 and the greatest number
             Step::Keys(Keyed {
                 row: b"\x01\xFF\xFF\xFF\xFF\xFF\xFF\xFF\xFB",
-                key: Some(b"\x01\x7F\xFF\xFF\xFF\xFF\xFF\xFF\xFB"),
+                key: b"\x01\x7F\xFF\xFF\xFF\xFF\xFF\xFF\xFB",
                 ..NUMBERS
             }),
             Step::Keys(Keyed {
                 row: b"\x01\x80\0\0\0\0\0\0\0",
-                key: Some(b"\x01\0\0\0\0\0\0\0\0"),
+                key: b"\x01\0\0\0\0\0\0\0\0",
                 ..NUMBERS
             }),
             Step::Keys(Keyed {
                 row: b"\x01\xFF\xFF\xFF\xFF\xFF\xFF\xFF\xFF",
-                key: Some(b"\x01\x7F\xFF\xFF\xFF\xFF\xFF\xFF\xFF"),
+                key: b"\x01\x7F\xFF\xFF\xFF\xFF\xFF\xFF\xFF",
                 ..NUMBERS
             }),
             Step::Keys(Keyed {
                 row: b"\x01\0\0\0\0\0\0\0\0",
-                key: Some(b"\x01\x80\0\0\0\0\0\0\0"),
+                key: b"\x01\x80\0\0\0\0\0\0\0",
                 ..NUMBERS
             }),
             Step::Keys(Keyed {
                 row: b"\x01\x7F\xFF\xFF\xFF\xFF\xFF\xFF\xFF",
-                key: Some(b"\x01\xFF\xFF\xFF\xFF\xFF\xFF\xFF\xFF"),
+                key: b"\x01\xFF\xFF\xFF\xFF\xFF\xFF\xFF\xFF",
                 ..NUMBERS
             }),
             Step::Keys(Keyed {
                 kinds: TEXT,
                 row: b"\x01\0",
-                key: Some(b"\x01\0\x01"),
+                key: b"\x01\0\x01",
                 ..NUMBERS
             }),
             Step::Keys(Keyed {
                 kinds: TEXT,
                 row: b"\x01\x01a",
-                key: Some(b"\x01a\0\x01"),
+                key: b"\x01a\0\x01",
                 ..NUMBERS
             }),
             Step::Keys(Keyed {
                 kinds: TEXT,
                 row: b"\x01\x02a\0",
-                key: Some(b"\x01a\0\xFF\0\x01"),
+                key: b"\x01a\0\xFF\0\x01",
                 ..NUMBERS
             }),
             Step::Keys(Keyed {
                 kinds: TEXT,
                 row: b"\x01\x02ab",
-                key: Some(b"\x01ab\0\x01"),
+                key: b"\x01ab\0\x01",
                 ..NUMBERS
             }),
             // 5, "ab", Null, true
@@ -121,7 +105,7 @@ pub static CASES: [Case; 7] = [
                     KeyCol { column: 3, ..UP },
                 ],
                 row: b"\x01\0\0\0\0\0\0\0\x05\x01\x02ab\0\x01\x01",
-                key: Some(b"\x01\x80\0\0\0\0\0\0\x05\x01ab\0\x01\0\x01\x01"),
+                key: b"\x01\x80\0\0\0\0\0\0\x05\x01ab\0\x01\0\x01\x01",
                 ..NUMBERS
             }),
             // a part of the columns, in another order
@@ -129,48 +113,48 @@ pub static CASES: [Case; 7] = [
                 kinds: &[Kind::Int; 5],
                 columns: &[KeyCol { column: 2, ..UP }, DOWN],
                 row: b"\x01\0\0\0\0\0\0\0\x01\x01\0\0\0\0\0\0\0\x02\x01\0\0\0\0\0\0\0\x03\0\0",
-                key: Some(b"\x01\x80\0\0\0\0\0\0\x03\xfe\x7f\xff\xff\xff\xff\xff\xff\xfe"),
+                key: b"\x01\x80\0\0\0\0\0\0\x03\xfe\x7f\xff\xff\xff\xff\xff\xff\xfe",
                 ..NUMBERS
             }),
             // from the greatest to the least: Null, 5, "a", "", true and false
             Step::Keys(Keyed {
                 columns: &[DOWN],
                 row: b"\0",
-                key: Some(b"\xff"),
+                key: b"\xff",
                 ..NUMBERS
             }),
             Step::Keys(Keyed {
                 columns: &[DOWN],
                 row: b"\x01\0\0\0\0\0\0\0\x05",
-                key: Some(b"\xfe\x7f\xff\xff\xff\xff\xff\xff\xfa"),
+                key: b"\xfe\x7f\xff\xff\xff\xff\xff\xff\xfa",
                 ..NUMBERS
             }),
             Step::Keys(Keyed {
                 kinds: TEXT,
                 columns: &[DOWN],
                 row: b"\x01\x01a",
-                key: Some(b"\xfe\x9e\xff\xfe"),
+                key: b"\xfe\x9e\xff\xfe",
                 ..NUMBERS
             }),
             Step::Keys(Keyed {
                 kinds: TEXT,
                 columns: &[DOWN],
                 row: b"\x01\0",
-                key: Some(b"\xfe\xff\xfe"),
+                key: b"\xfe\xff\xfe",
                 ..NUMBERS
             }),
             Step::Keys(Keyed {
                 kinds: FLAG,
                 columns: &[DOWN],
                 row: b"\x01\x01",
-                key: Some(b"\xfe\xfe"),
+                key: b"\xfe\xfe",
                 ..NUMBERS
             }),
             Step::Keys(Keyed {
                 kinds: FLAG,
                 columns: &[DOWN],
                 row: b"\x01\0",
-                key: Some(b"\xfe\xff"),
+                key: b"\xfe\xff",
                 ..NUMBERS
             }),
             // 5 the one way, "a" the other, Null the one way, true the other; and the same the other way round
@@ -183,7 +167,7 @@ pub static CASES: [Case; 7] = [
                     KeyCol { column: 3, ..DOWN },
                 ],
                 row: b"\x01\0\0\0\0\0\0\0\x05\x01\x01a\0\x01\x01",
-                key: Some(b"\x01\x80\0\0\0\0\0\0\x05\xfe\x9e\xff\xfe\0\xfe\xfe"),
+                key: b"\x01\x80\0\0\0\0\0\0\x05\xfe\x9e\xff\xfe\0\xfe\xfe",
                 ..NUMBERS
             }),
             Step::Keys(Keyed {
@@ -195,32 +179,7 @@ pub static CASES: [Case; 7] = [
                     KeyCol { column: 3, ..UP },
                 ],
                 row: b"\x01\0\0\0\0\0\0\0\x05\x01\x01a\0\x01\x01",
-                key: Some(b"\xfe\x7f\xff\xff\xff\xff\xff\xff\xfa\x01a\0\x01\xff\x01\x01"),
-                ..NUMBERS
-            }),
-        ]),
-        told: DONE,
-    },
-    Case {
-        name: "rows that an index takes",
-        layer: Layer::Rows(&[
-            // 4, but neither 5 nor Null; an index of all numbers takes Null
-            Step::Keys(Keyed {
-                row: b"\x01\0\0\0\0\0\0\0\x04",
-                key: Some(b"\x01\x80\0\0\0\0\0\0\x04"),
-                ..BELOW_FIVE
-            }),
-            Step::Keys(Keyed {
-                row: b"\x01\0\0\0\0\0\0\0\x05",
-                ..BELOW_FIVE
-            }),
-            Step::Keys(Keyed {
-                row: b"\0",
-                ..BELOW_FIVE
-            }),
-            Step::Keys(Keyed {
-                row: b"\0",
-                key: Some(b"\0"),
+                key: b"\xfe\x7f\xff\xff\xff\xff\xff\xff\xfa\x01a\0\x01\xff\x01\x01",
                 ..NUMBERS
             }),
         ]),
@@ -285,25 +244,6 @@ pub static CASES: [Case; 7] = [
         told: DONE,
     },
     Case {
-        name: "what a change means for an index",
-        layer: Layer::Rows(&[
-            Step::Changes(Changed {
-                delete: Some(b"a"),
-                insert: Some(b"b"),
-                ..UPDATE
-            }),
-            Step::Changes(Changed {
-                is_visible: false,
-                ..UPDATE
-            }),
-            Step::Changes(Changed {
-                new: b"a",
-                ..UPDATE
-            }),
-        ]),
-        told: DONE,
-    },
-    Case {
         name: "refusals as scripts know them",
         layer: Layer::Rows(&[
             Step::Names(Known {
@@ -325,11 +265,6 @@ pub static CASES: [Case; 7] = [
                 text: "transaction 7 may still give the key of ready index 4 back",
             }),
         ]),
-        told: DONE,
-    },
-    Case {
-        name: "a text and its cell",
-        layer: Layer::Rows(&[Step::Keeps("word")]),
         told: DONE,
     },
 ];

@@ -1,0 +1,41 @@
+//! What all tasks print, by tables.
+
+use crate::run::{Run, told_otherwise};
+use crate::{
+    conversations, index_files, index_orders, index_refusals, long_scripts, pictures, race_runs, races,
+};
+use std::alloc::{AllocError, Global};
+use std::sync::Wait;
+use std::test::Fail;
+use std::thread::Threads;
+
+fn tables() -> [&'static [Run]; 8] {
+    [
+        &conversations::RUNS,
+        &index_files::RUNS,
+        &index_orders::RUNS,
+        &index_refusals::RUNS,
+        &long_scripts::RUNS,
+        &pictures::RUNS,
+        &race_runs::RUNS,
+        &races::RUNS,
+    ]
+}
+
+/// The first run that prints something else.
+fn any_told_otherwise<A: Threads + Wait + Sync>(rt: &A, alloc: Global) -> Result<Option<&'static str>, AllocError> {
+    for runs in tables() {
+        let other = told_otherwise(rt, alloc, runs)?;
+        if other.is_some() {
+            return Ok(other);
+        }
+    }
+    Ok(None)
+}
+
+#[test]
+fn are_printed(rt: HostRuntime) -> Result<(), Fail> {
+    let other = any_told_otherwise(&rt, rt.alloc())?;
+    assert_eq!(rt; other, None);
+    Ok(())
+}
