@@ -19,7 +19,8 @@ commit,A
 switch
 quit
 ",
-    out: Out::Is("1,ok
+    out: Out::Is(
+        "1,ok
 2,ok,0.0
 3,ok,1
 4,ok,0
@@ -38,12 +39,13 @@ quit
 11,shared,0,5,0.0,0.1
 11,pages,0
 12,ok
-"),
+",
+    ),
     status: 1,
     ..SCRIPT
 };
 
-pub const RUNS: [Run; 10] = [
+pub static RUNS: [Run; 10] = [
     // The table, rows, scans, entries and pairs of examples/while_in_use.csv, with a status at each phase.
     Run {
         name: "a build while a transaction writes",
@@ -76,7 +78,8 @@ pairs,0
 rest,n:0
 status
 ",
-        out: Out::Is("2,ok
+        out: Out::Is(
+            "2,ok
 3,ok,0.0
 4,ok,0.1
 5,ok,1.0
@@ -137,7 +140,8 @@ status
 26,table,2,2,10,1,int
 26,build,none
 26,ready,0,3
-"),
+",
+        ),
         ..SCRIPT
     },
     Run {
@@ -161,7 +165,8 @@ exit\tabcdefghijklmnopqrstuvwxyzabcdefghij
 quit
 row,7
 ",
-        out: Out::Is("1,bad,\"there is no table yet (table,L,KIND,..)\"
+        out: Out::Is(
+            "1,bad,\"there is no table yet (table,L,KIND,..)\"
 2,bad,\"\"\"fly\"\" is no command and no word (help lists them)\"
 3,ok,1
 3,table,none
@@ -180,7 +185,8 @@ digest, seal, load, feed, apply, fence, switch, abandon, side, pairs or rest)\"
 15,bad,\"\"\"exit\\tabcdefghijklmnopqrstuvwxyzabcdefghi\"\" is no command and no word (help lists them)\"
 16,bad,\"\"\"exit\\tabcdefghijklmnopqrstuvwxyzabcdefghi..\"\" is no command and no word (help lists them)\"
 17,ok
-"),
+",
+        ),
         ..SCRIPT
     },
     Run {
@@ -191,12 +197,14 @@ row,5
 table,256,int
 table,1,int
 row,5",
-        out: Out::Is("1,refused,43,BadCount
+        out: Out::Is(
+            "1,refused,43,BadCount
 2,bad,\"there is no table yet (table,L,KIND,..)\"
 3,refused,43,BadCount
 4,ok
 5,ok,0.0
-"),
+",
+        ),
         ..SCRIPT
     },
     Run {
@@ -207,11 +215,13 @@ row,5
 start,1,4,1,u:0
 scan,0,0
 ",
-        out: Out::Is("1,ok
+        out: Out::Is(
+            "1,ok
 2,ok,0.0
 3,ok,1
 4,ok,0
-"),
+",
+        ),
         ..SCRIPT
     },
     WAITS,
@@ -226,7 +236,8 @@ seal,0
 status
 abandon
 ",
-        out: Out::Is("1,ok
+        out: Out::Is(
+            "1,ok
 2,ok,0.0
 3,ok,1
 4,ok,0
@@ -239,7 +250,8 @@ abandon
 6,waits,abandon,51,NoPage
 7,ok
 7,pages,0
-"),
+",
+        ),
         ..SCRIPT
     },
     Run {
@@ -249,7 +261,8 @@ abandon
 help fly
 help start
 ",
-        out: Out::Is("1,ok,2
+        out: Out::Is(
+            "1,ok,2
 1,help,\"get,RID\",gives the row that is at the RID now
 1,field,2,\"RID (a page and a slot, as 12.3)\"
 2,bad,\"\"\"help fly\"\" is no command and no word (help lists them)\"
@@ -261,7 +274,8 @@ help start
 3,field,4,\"dealing (ends of ranges, as 4;8, or their number, as even:2)\"
 3,field,5,\"spec (n: or u: and columns, with d behind one that descends, as n:0;2d, and maybe a condition, as n:0?1=true, n:0?1<5 or n:0?1~)\"
 3,further,\"spec (n: or u: and columns, with d behind one that descends, as n:0;2d, and maybe a condition, as n:0?1=true, n:0?1<5 or n:0?1~)\"
-"),
+",
+        ),
         ..SCRIPT
     },
     Run {

@@ -225,7 +225,11 @@ fn write_answers(alloc: Global, whole: &Whole, answers: &mut Vec<u8>) -> Result<
 }
 
 /// How many beginnings of a script are answered as they have to be.
-fn beginnings<A: Threads + Wait + Sync>(rt: &A, alloc: Global, whole: &'static Whole) -> Result<Option<usize>, AllocError> {
+fn beginnings<A: Threads + Wait + Sync>(
+    rt: &A,
+    alloc: Global,
+    whole: &'static Whole,
+) -> Result<Option<usize>, AllocError> {
     let mut script = Vec::new(alloc);
     let mut answers = Vec::new(alloc);
     whole.run.write(alloc, &mut script)?;
@@ -239,7 +243,10 @@ fn beginnings<A: Threads + Wait + Sync>(rt: &A, alloc: Global, whole: &'static W
 }
 
 /// The first of these scripts of which beginnings are answered otherwise.
-fn told_otherwise<A: Threads + Wait + Sync>(rt: &A, alloc: Global) -> Result<Option<&'static str>, AllocError> {
+fn told_otherwise<A: Threads + Wait + Sync>(
+    rt: &A,
+    alloc: Global,
+) -> Result<Option<&'static str>, AllocError> {
     for whole in &WHOLE {
         if beginnings(rt, alloc, whole)? != Some(whole.beginnings) {
             return Ok(Some(whole.run.name));

@@ -1,7 +1,7 @@
 //! What is wrong with a bad script, in words.
 
 /// Bad scripts, each with what a check says of it.
-pub const EXPLAINED: [(&[u8], &str); 29] = [
+pub static EXPLAINED: [(&[u8], &str); 29] = [
     (
         b"table,2,int\nrow,x\n",
         "script: record 2 is bad: field 2, \"x\", is no cell (~, a number, =text, true or false)\n",

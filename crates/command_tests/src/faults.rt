@@ -120,7 +120,13 @@ impl<'a> Whole<'a> {
 
     /// Runs the story with a call that fails behind so many, and answers whether it was met; nothing where something else is printed than has
     /// to be.
-    fn run_failing<A: Threads + Wait + Sync>(&self, rt: &A, alloc: Global, fault: Fault, well: usize) -> Option<bool> {
+    fn run_failing<A: Threads + Wait + Sync>(
+        &self,
+        rt: &A,
+        alloc: Global,
+        fault: Fault,
+        well: usize,
+    ) -> Option<bool> {
         let mut streams = Streams::new(alloc, self.text);
         streams.text.part(self.story.piece);
         streams.out.part(self.story.piece);
@@ -135,7 +141,12 @@ impl<'a> Whole<'a> {
     }
 
     /// How many calls can fail.
-    fn failing_calls<A: Threads + Wait + Sync>(&self, rt: &A, alloc: Global, fault: Fault) -> Option<usize> {
+    fn failing_calls<A: Threads + Wait + Sync>(
+        &self,
+        rt: &A,
+        alloc: Global,
+        fault: Fault,
+    ) -> Option<usize> {
         for well in 0..usize::MAX {
             if !self.run_failing(rt, alloc, fault, well)? {
                 return Some(well);
@@ -148,7 +159,11 @@ impl<'a> Whole<'a> {
     fn each_byte(&self) -> (usize, usize, usize) {
         let (out, err, _) = self.printed.parts();
         let text = self.text.len().saturating_add(1);
-        (text, out.len().saturating_add(self.story.flushes), err.len())
+        (
+            text,
+            out.len().saturating_add(self.story.flushes),
+            err.len(),
+        )
     }
 
     /// Whether each call of a stream may fail so.
@@ -179,7 +194,15 @@ impl<'a> Whole<'a> {
     fn may_be_unsent<A: Threads + Wait + Sync>(&self, rt: &A, alloc: Global, place: Place) -> bool {
         for failure in UNSENT {
             let said = "";
-            if !self.may_fail(rt, alloc, Fault { place, failure, said }) {
+            if !self.may_fail(
+                rt,
+                alloc,
+                Fault {
+                    place,
+                    failure,
+                    said,
+                },
+            ) {
                 return false;
             }
         }
@@ -194,16 +217,28 @@ impl<'a> Whole<'a> {
     }
 }
 
-fn is_told<A: Threads + Wait + Sync>(rt: &A, alloc: Global, story: &'static Story) -> Result<bool, AllocError> {
+fn is_told<A: Threads + Wait + Sync>(
+    rt: &A,
+    alloc: Global,
+    story: &'static Story,
+) -> Result<bool, AllocError> {
     let mut text = Vec::new(alloc);
     story.run.write(alloc, &mut text)?;
     let text = text.as_slice();
     let printed = Printed::by(rt, alloc, story.run.task, text);
-    Ok(Whole { story, text, printed }.is_told(rt, alloc))
+    Ok(Whole {
+        story,
+        text,
+        printed,
+    }
+    .is_told(rt, alloc))
 }
 
 /// The first story that prints something else than it has to when a call fails.
-fn told_otherwise<A: Threads + Wait + Sync>(rt: &A, alloc: Global) -> Result<Option<&'static str>, AllocError> {
+fn told_otherwise<A: Threads + Wait + Sync>(
+    rt: &A,
+    alloc: Global,
+) -> Result<Option<&'static str>, AllocError> {
     for story in &STORIES {
         if !is_told(rt, alloc, story)? {
             return Ok(Some(story.run.name));

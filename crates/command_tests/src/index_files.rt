@@ -3,7 +3,7 @@
 use crate::run::{Out, Run, SCRIPT};
 use crate::task::Task;
 
-pub const RUNS: [Run; 24] = [
+pub static RUNS: [Run; 24] = [
     Run {
         name: "quotes, commas and ends of lines in fields",
         task: Task::Index(&[
@@ -17,7 +17,9 @@ pub const RUNS: [Run; 24] = [
             "..",
         ]),
         rest: b"id,note\n1,\"a,b\"\n2,\"say \"\"x\"\"\"\n3,\"two\nlines\"\n4,plain\n",
-        out: Out::Is("note: pairs: 4, levels: 1, ready\nline,id,note\n2,1,\"a,b\"\n6,4,plain\n3,2,\"say \"\"x\"\"\"\n4,3,\"two\nlines\"\n"),
+        out: Out::Is(
+            "note: pairs: 4, levels: 1, ready\nline,id,note\n2,1,\"a,b\"\n6,4,plain\n3,2,\"say \"\"x\"\"\"\n4,3,\"two\nlines\"\n",
+        ),
         err: "rows read: 4, pages scanned: 1, pairs loaded: 4\nnote: pages leased at most: 1\n",
         ..SCRIPT
     },
@@ -56,7 +58,9 @@ pub const RUNS: [Run; 24] = [
             "..",
         ]),
         rest: b"a,b,c,,\n1,?,true,,\n2,?,true,,\n3,?,false,,",
-        out: Out::Is("c,a:desc: pairs: 3, levels: 1, ready\nline,c,a\n4,false,3\n3,true,2\n2,true,1\n"),
+        out: Out::Is(
+            "c,a:desc: pairs: 3, levels: 1, ready\nline,c,a\n4,false,3\n3,true,2\n2,true,1\n",
+        ),
         err: "rows read: 3, pages scanned: 1, pairs loaded: 3\nc,a:desc: pages leased at most: 1\n",
         ..SCRIPT
     },
@@ -81,7 +85,9 @@ pub const RUNS: [Run; 24] = [
             "..",
         ]),
         rest: b"a\n",
-        out: Out::Is("a: pairs: 0, levels: 1, ready\na: pairs: 0, levels: 1, unique, ready\nline,a\n"),
+        out: Out::Is(
+            "a: pairs: 0, levels: 1, ready\na: pairs: 0, levels: 1, unique, ready\nline,a\n",
+        ),
         err: "rows read: 0, pages scanned: 0, pairs loaded: 0\na: pages leased at most: 0\na: pages leased at most: 0\n",
         ..SCRIPT
     },
@@ -105,7 +111,9 @@ pub const RUNS: [Run; 24] = [
         name: "numbers of both signs",
         task: Task::Index(&["--columns", "n:int", "--on", "n:desc", "--range", ".."]),
         rest: b"n\n5\n-5\n0\n9223372036854775807\n-9223372036854775808\n+7\n007\n-0\n",
-        out: Out::Is("n:desc: pairs: 8, levels: 1, ready\nline,n\n5,9223372036854775807\n7,7\n8,7\n2,5\n4,0\n9,0\n3,-5\n6,-9223372036854775808\n"),
+        out: Out::Is(
+            "n:desc: pairs: 8, levels: 1, ready\nline,n\n5,9223372036854775807\n7,7\n8,7\n2,5\n4,0\n9,0\n3,-5\n6,-9223372036854775808\n",
+        ),
         err: "rows read: 8, pages scanned: 1, pairs loaded: 8\nn:desc: pages leased at most: 1\n",
         ..SCRIPT
     },
@@ -113,7 +121,9 @@ pub const RUNS: [Run; 24] = [
         name: "texts of many scripts, by their bytes",
         task: Task::Index(&["--columns", "t:text", "--on", "t", "--range", ".."]),
         rest: b"t\n\xe6\x9d\xb1\n\xd1\x8f\na\n\xf0\x9d\x84\x9e\n\xc3\xa9\n\xd8\xb9\nZ\n\xc3\x9f\n\xe4\xba\xac\n\xd0\x96\n\xd7\x90\n",
-        out: Out::Is("t: pairs: 11, levels: 1, ready\nline,t\n8,Z\n4,a\n9,ß\n6,é\n11,Ж\n3,я\n12,א\n7,ع\n10,京\n2,東\n5,𝄞\n"),
+        out: Out::Is(
+            "t: pairs: 11, levels: 1, ready\nline,t\n8,Z\n4,a\n9,ß\n6,é\n11,Ж\n3,я\n12,א\n7,ع\n10,京\n2,東\n5,𝄞\n",
+        ),
         err: "rows read: 11, pages scanned: 1, pairs loaded: 11\nt: pages leased at most: 1\n",
         ..SCRIPT
     },
@@ -252,8 +262,10 @@ pub const RUNS: [Run; 24] = [
         ]),
         rest: b"id,name\n1,a\nx,b\n2\n3,yyyyyyyyyyyyyyyyyyyyyyyyyyyyyyyyyyyyyyyyyyyyyyyyyyyyyyyyyyyyyyyyyyyyyyyyyyyyyyyyyyyyyyyyyyyyyyyyyyyyy\n\
             \n4,d\n4,e\n1,f\n",
-        out: Out::Is("name: pairs: 4, levels: 1, ready\nid: unique, refused: lines 2 and 9 share the key 1\nrecords left out: 3\n\
-            line,id,name\n2,1,a\n7,4,d\n8,4,e\n9,1,f\n"),
+        out: Out::Is(
+            "name: pairs: 4, levels: 1, ready\nid: unique, refused: lines 2 and 9 share the key 1\nrecords left out: 3\n\
+            line,id,name\n2,1,a\n7,4,d\n8,4,e\n9,1,f\n",
+        ),
         err: "rows read: 4, pages scanned: 1, pairs loaded: 4\nname: pages leased at most: 1\nid: pages leased at most: 1\n",
         status: 1,
         ..SCRIPT

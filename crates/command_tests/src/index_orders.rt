@@ -4,9 +4,16 @@ use crate::run::{Out, Run, SCRIPT};
 use crate::task::Task;
 
 /// Names from the last, sizes from the least, an empty one before all, and numbers from the last. The tree of 120 rows has two levels.
-pub const RUNS: [Run; 1] = [Run {
+pub static RUNS: [Run; 1] = [Run {
     name: "rows that were drawn",
-    task: Task::Index(&["--columns", "id:int,size:int,name:text", "--on", "name:desc,size,id:desc", "--range", ".."]),
+    task: Task::Index(&[
+        "--columns",
+        "id:int,size:int,name:text",
+        "--on",
+        "name:desc,size,id:desc",
+        "--range",
+        "..",
+    ]),
     rest: b"id,size,name
 0,20,\"b,c\"
 1,-1,\xd0\x96
@@ -129,7 +136,8 @@ pub const RUNS: [Run; 1] = [Run {
 118,17,ab
 119,-1,
 ",
-    out: Out::Is("name:desc,size,id:desc: pairs: 120, levels: 2, ready
+    out: Out::Is(
+        "name:desc,size,id:desc: pairs: 120, levels: 2, ready
 line,id,size,name
 119,117,,京
 104,102,,京
@@ -251,7 +259,8 @@ line,id,size,name
 8,6,24,
 52,50,37,
 90,88,45,
-"),
+",
+    ),
     err: "rows read: 120, pages scanned: 1, pairs loaded: 120\nname:desc,size,id:desc: pages leased at most: 1\n",
     ..SCRIPT
 }];

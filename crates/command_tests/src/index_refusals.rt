@@ -3,7 +3,7 @@
 use crate::run::{Out, Run, SCRIPT};
 use crate::task::Task;
 
-pub const RUNS: [Run; 14] = [
+pub static RUNS: [Run; 14] = [
     Run {
         name: "an empty file",
         task: Task::Index(&["--columns", "a:int", "--on", "a"]),

@@ -1,7 +1,7 @@
 //! Words of the command `index` that are refused before the file is read.
 
 /// Words, each with what is said of them.
-pub const REFUSED: [(&[&str], &str); 22] = [
+pub static REFUSED: [(&[&str], &str); 22] = [
     (
         &["--columns", "a:int", "--on", "a", "--find", "x"],
         "sfbuild index: `x`: no key: column `a`: no whole number of 64 bits\n",

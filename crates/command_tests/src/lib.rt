@@ -23,6 +23,8 @@ mod index_refusals;
 #[cfg(test)]
 mod index_words;
 #[cfg(test)]
+mod layers;
+#[cfg(test)]
 mod long_scripts;
 #[cfg(test)]
 mod measured_runs;
@@ -52,5 +54,7 @@ mod stream;
 mod tables;
 #[cfg(test)]
 mod task;
+#[cfg(test)]
+mod verdicts;
 #[cfg(test)]
 mod well_formed;

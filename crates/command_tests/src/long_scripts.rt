@@ -30,7 +30,10 @@ begin,A
 pub const ONE_TOO_MANY: Run = Run {
     name: "one entry more than a switch takes",
     begin: ONE_INDEX,
-    lines: Lines { count: 512, ..UPDATES },
+    lines: Lines {
+        count: 512,
+        ..UPDATES
+    },
     rest: b"insert,A,0
 switch
 feed,0,1
@@ -39,7 +42,8 @@ apply,0,1
 switch
 pairs,0
 ",
-    out: Out::Ends("520,ok,515,0.1
+    out: Out::Ends(
+        "520,ok,515,0.1
 521,refused,49,Behind,1025
 522,ok,1
 523,refused,49,Behind,1025
@@ -49,7 +53,8 @@ pairs,0
 526,ok,2
 526,pair,0,0.1
 526,pair,512,0.0
-"),
+",
+    ),
     ..SCRIPT
 };
 
@@ -57,14 +62,18 @@ pairs,0
 pub const FEW: Run = Run {
     name: "a few entries",
     begin: ONE_INDEX,
-    lines: Lines { count: 12, ..UPDATES },
+    lines: Lines {
+        count: 12,
+        ..UPDATES
+    },
     rest: b"insert,A,0
 feed,0,9
 apply,0,4
 switch
 pairs,0
 ",
-    out: Out::Ends("20,ok,15,0.1
+    out: Out::Ends(
+        "20,ok,15,0.1
 21,ok,9
 22,ok,4
 23,ok,16,ready:0
@@ -72,16 +81,20 @@ pairs,0
 24,ok,2
 24,pair,0,0.1
 24,pair,12,0.0
-"),
+",
+    ),
     ..SCRIPT
 };
 
-pub const RUNS: [Run; 8] = [
+pub static RUNS: [Run; 8] = [
     FEW,
     Run {
         name: "more entries than a ring has room for",
         begin: ONE_INDEX,
-        lines: Lines { count: 129, ..UPDATES },
+        lines: Lines {
+            count: 129,
+            ..UPDATES
+        },
         rest: b"feed,0,300
 feed,0,1
 apply,0,2
@@ -91,7 +104,8 @@ apply,0,300
 switch
 pairs,0
 ",
-        out: Out::Ends("137,ok,256
+        out: Out::Ends(
+            "137,ok,256
 138,ok,0
 139,ok,2
 140,ok,2
@@ -101,7 +115,8 @@ pairs,0
 143,pages,0
 144,ok,1
 144,pair,129,0.0
-"),
+",
+        ),
         ..SCRIPT
     },
     ONE_TOO_MANY,
@@ -116,7 +131,10 @@ load,0
 load,1
 begin,A
 ",
-        lines: Lines { count: 257, ..UPDATES },
+        lines: Lines {
+            count: 257,
+            ..UPDATES
+        },
         rest: b"switch
 feed,1,3
 apply,1,3
@@ -128,7 +146,8 @@ switch
 pairs,0
 pairs,1
 ",
-        out: Out::Ends("266,refused,49,Behind,1028
+        out: Out::Ends(
+            "266,refused,49,Behind,1028
 267,ok,3
 268,ok,3
 269,refused,49,Behind,1025
@@ -141,7 +160,8 @@ pairs,1
 274,pair,257,0.0
 275,ok,1
 275,pair,257,0.0
-"),
+",
+        ),
         ..SCRIPT
     },
     Run {

@@ -42,13 +42,46 @@ const PHASES: Measured = Measured::Records(&[
 /// Runs on two columns by two workers, of eight indexes in one scan and spools of both kinds, and of a unique index on random numbers, which
 /// differ; one of texts of one letter, of which some are the same; and words that are refused.
 static RUNS: [(&[&str], Measured); 21] = [
-    (&["--rows", "1000", "--columns", "int,text:20", "--writes", "100", "--seed", "7", "--workers", "2", "--csv"], PHASES),
     (
-        &["--rows", "600", "--columns", "int:500,text:3:2", "--indexes", "8", "--spools", "mixed", "--writes", "50", "--csv"],
+        &[
+            "--rows",
+            "1000",
+            "--columns",
+            "int,text:20",
+            "--writes",
+            "100",
+            "--seed",
+            "7",
+            "--workers",
+            "2",
+            "--csv",
+        ],
         PHASES,
     ),
-    (&["--rows", "600", "--unique", "--writes", "50", "--csv"], PHASES),
-    (&["--rows", "600", "--columns", "text:1", "--unique"], Measured::Shared),
+    (
+        &[
+            "--rows",
+            "600",
+            "--columns",
+            "int:500,text:3:2",
+            "--indexes",
+            "8",
+            "--spools",
+            "mixed",
+            "--writes",
+            "50",
+            "--csv",
+        ],
+        PHASES,
+    ),
+    (
+        &["--rows", "600", "--unique", "--writes", "50", "--csv"],
+        PHASES,
+    ),
+    (
+        &["--rows", "600", "--columns", "text:1", "--unique"],
+        Measured::Shared,
+    ),
     (
         &["--rows", "1234", "--columns", "int,text:5"],
         Measured::Table("1,234 rows of int,text:5, indexes 1, workers 1, writes 0, seed 1992"),
@@ -74,7 +107,19 @@ static RUNS: [(&[&str], Measured); 21] = [
 /// A run whose rows come by three sessions, and whose two indexes are built by two workers beside two writers. Each worker has more pairs than the
 /// batches of a load have room for.
 const BESIDE: &[&str] = &[
-    "sfbench", "--rows", "12000", "--columns", "int,text:20", "--indexes", "2", "--workers", "2", "--sessions=3", "--writers", "2", "--csv",
+    "sfbench",
+    "--rows",
+    "12000",
+    "--columns",
+    "int,text:20",
+    "--indexes",
+    "2",
+    "--workers",
+    "2",
+    "--sessions=3",
+    "--writers",
+    "2",
+    "--csv",
 ];
 
 /// The phases of a run with writers in threads, behind the names of the fields.

@@ -10,12 +10,15 @@ const ROWS: Lines = Lines {
     ..NO_LINES
 };
 
-pub const RUNS: [Run; 11] = [
+pub static RUNS: [Run; 11] = [
     Run {
         name: "a table alone",
         task: Task::Picture,
         rest: b"table,1,int\n",
-        out: Out::Draws(1, &["<g id=\"record-1\"><title>table,1,int</title>", "</svg>"]),
+        out: Out::Draws(
+            1,
+            &["<g id=\"record-1\"><title>table,1,int</title>", "</svg>"],
+        ),
         ..SCRIPT
     },
     Run {
@@ -37,37 +40,40 @@ seal,0
 load,0
 switch
 ",
-        out: Out::Draws(14, &[
-            "># a remark &amp; more</text>",
-            "<g id=\"record-3\">",
-            "#no-build\"",
-            ">0.0 = 10</text>",
-            "<g id=\"record-6\">",
-            ">pages 0-1</text>",
-            "<g id=\"record-7\">",
-            ">page 0 copied</text>",
-            "<g id=\"record-9\">",
-            "#behind\"",
-            ">0.0 = 11</text>",
-            "#delete\"",
-            ">10 at 0.0</text>",
-            "#insert\"",
-            ">11 at 0.0</text>",
-            "<g id=\"record-10\">",
-            "#ahead\"",
-            ">1.1 = 40</text>",
-            "<g id=\"record-12\">",
-            "#undo-behind\"",
-            ">1.1 undone</text>",
-            ">40 at 1.1</text>",
-            "<g id=\"record-15\">",
-            ">applies 3</text>",
-            ">ready 0</text>",
-            ">index 0 is ready 0, pairs: 3</text>",
-            ">11 at 0.0</text>",
-            ">20 at 0.1</text>",
-            ">30 at 1.0</text>",
-        ]),
+        out: Out::Draws(
+            14,
+            &[
+                "># a remark &amp; more</text>",
+                "<g id=\"record-3\">",
+                "#no-build\"",
+                ">0.0 = 10</text>",
+                "<g id=\"record-6\">",
+                ">pages 0-1</text>",
+                "<g id=\"record-7\">",
+                ">page 0 copied</text>",
+                "<g id=\"record-9\">",
+                "#behind\"",
+                ">0.0 = 11</text>",
+                "#delete\"",
+                ">10 at 0.0</text>",
+                "#insert\"",
+                ">11 at 0.0</text>",
+                "<g id=\"record-10\">",
+                "#ahead\"",
+                ">1.1 = 40</text>",
+                "<g id=\"record-12\">",
+                "#undo-behind\"",
+                ">1.1 undone</text>",
+                ">40 at 1.1</text>",
+                "<g id=\"record-15\">",
+                ">applies 3</text>",
+                ">ready 0</text>",
+                ">index 0 is ready 0, pairs: 3</text>",
+                ">11 at 0.0</text>",
+                ">20 at 0.1</text>",
+                ">30 at 1.0</text>",
+            ],
+        ),
         ..SCRIPT
     },
     Run {
@@ -83,14 +89,17 @@ seal,0
 load,0
 switch
 ",
-        out: Out::Draws(9, &[
-            "<g id=\"record-5\">",
-            ">NotScanned, 0</text>",
-            "<g id=\"record-9\">",
-            ">two rows share a key</text>",
-            ">index 0 is refused</text>",
-            ">4 at 0.0 and 0.1</text>",
-        ]),
+        out: Out::Draws(
+            9,
+            &[
+                "<g id=\"record-5\">",
+                ">NotScanned, 0</text>",
+                "<g id=\"record-9\">",
+                ">two rows share a key</text>",
+                ">index 0 is refused</text>",
+                ">4 at 0.0 and 0.1</text>",
+            ],
+        ),
         status: 1,
         ..SCRIPT
     },
@@ -103,14 +112,17 @@ row,\"=a\tb\x01\xc2\x85\xef\xbf\xbf\"
 row,=\xd7\xa2\xd7\x91\xe2\x80\xae\xe2\x80\xa8
 row,=0123456789012345678901234567890123456789
 ",
-        out: Out::Draws(5, &[
-            "<title>row,=&lt;&amp;&quot;&gt;&apos;</title>",
-            ">0.0 = =&lt;&amp;&quot;&gt;&apos;</text>",
-            ">0.1 = =a\u{2409}b\u{fffd}\u{fffd}\u{fffd}</text>",
-            ">0.2 = =\u{5e2}\u{5d1}\u{fffd}\u{fffd}</text>",
-            "<title>row,=0123456789012345678901234567890123456789</title>",
-            ">row,=01234567890123456789012345678901\u{2026}</text>",
-        ]),
+        out: Out::Draws(
+            5,
+            &[
+                "<title>row,=&lt;&amp;&quot;&gt;&apos;</title>",
+                ">0.0 = =&lt;&amp;&quot;&gt;&apos;</text>",
+                ">0.1 = =a\u{2409}b\u{fffd}\u{fffd}\u{fffd}</text>",
+                ">0.2 = =\u{5e2}\u{5d1}\u{fffd}\u{fffd}</text>",
+                "<title>row,=0123456789012345678901234567890123456789</title>",
+                ">row,=01234567890123456789012345678901\u{2026}</text>",
+            ],
+        ),
         ..SCRIPT
     },
     Run {
@@ -128,12 +140,15 @@ row,=0123456789012345678901234567890123456789
 start,2,4,even:2,n:0
 abandon
 ",
-        out: Out::Draws(3, &[
-            ">no page</text>",
-            ">no page</text>",
-            "class=\"gone\"",
-            ">given up</text>",
-        ]),
+        out: Out::Draws(
+            3,
+            &[
+                ">no page</text>",
+                ">no page</text>",
+                "class=\"gone\"",
+                ">given up</text>",
+            ],
+        ),
         ..SCRIPT
     },
     Run {

@@ -21,19 +21,33 @@ impl Drop for Printed<'_> {
 
 impl<'a> Printed<'a> {
     /// What a task prints of a text, where all calls of its streams go well.
-    pub fn by<A: Threads + Wait + Sync>(rt: &A, alloc: Global, task: Task, text: &'a [u8]) -> Printed<'a> {
+    pub fn by<A: Threads + Wait + Sync>(
+        rt: &A,
+        alloc: Global,
+        task: Task,
+        text: &'a [u8],
+    ) -> Printed<'a> {
         Printed::over(rt, alloc, task, Streams::new(alloc, text))
     }
 
     /// The same over these streams.
-    pub fn over<A: Threads + Wait + Sync>(rt: &A, alloc: Global, task: Task, mut streams: Streams<'a>) -> Printed<'a> {
+    pub fn over<A: Threads + Wait + Sync>(
+        rt: &A,
+        alloc: Global,
+        task: Task,
+        mut streams: Streams<'a>,
+    ) -> Printed<'a> {
         let status = streams.run(rt, alloc, task);
         Printed { streams, status }
     }
 
     /// The answers, what is said to be wrong, and the status.
     pub fn parts(&self) -> (&str, &str, u8) {
-        (text(self.streams.out.kept()), text(self.streams.err.kept()), self.status)
+        (
+            text(self.streams.out.kept()),
+            text(self.streams.err.kept()),
+            self.status,
+        )
     }
 
     /// What is shown beside.

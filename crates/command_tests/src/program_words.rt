@@ -22,23 +22,82 @@ enum Asked {
 const REPLAY_HELP: Asked = Asked::Help(&["table,2,int", "sfbuild check three.csv"]);
 
 static WORDS: [(&[&str], Asked); 34] = [
-    (&["sfbuild", "replay", "three.csv"], Asked::Script(Task::Replay, "three.csv")),
-    (&["sfbuild", "replay", "-"], Asked::Script(Task::Replay, "-")),
-    (&["sfbuild", "replay", "./a b"], Asked::Script(Task::Replay, "./a b")),
-    (&["sfbuild", "check", "three.csv"], Asked::Script(Task::Check, "three.csv")),
+    (
+        &["sfbuild", "replay", "three.csv"],
+        Asked::Script(Task::Replay, "three.csv"),
+    ),
+    (
+        &["sfbuild", "replay", "-"],
+        Asked::Script(Task::Replay, "-"),
+    ),
+    (
+        &["sfbuild", "replay", "./a b"],
+        Asked::Script(Task::Replay, "./a b"),
+    ),
+    (
+        &["sfbuild", "check", "three.csv"],
+        Asked::Script(Task::Check, "three.csv"),
+    ),
     (&["sfbuild", "check", "-"], Asked::Script(Task::Check, "-")),
-    (&["sfbuild", "check", "./a b"], Asked::Script(Task::Check, "./a b")),
-    (&["sfbuild", "picture", "three.csv"], Asked::Script(Task::Picture, "three.csv")),
-    (&["sfbuild", "picture", "-"], Asked::Script(Task::Picture, "-")),
-    (&["sfbuild", "picture", "./a b"], Asked::Script(Task::Picture, "./a b")),
-    (&["sfbuild", "check", "--race", "a"], Asked::Script(Task::CheckRace, "a")),
-    (&["sfbuild", "race", "--workers", "16", "a"], Asked::Script(Task::Race { workers: 16, is_shown: false }, "a")),
-    (&["sfbuild", "race", "--workers", "16", "a", "--progress"], Asked::Script(Task::Race { workers: 16, is_shown: true }, "a")),
+    (
+        &["sfbuild", "check", "./a b"],
+        Asked::Script(Task::Check, "./a b"),
+    ),
+    (
+        &["sfbuild", "picture", "three.csv"],
+        Asked::Script(Task::Picture, "three.csv"),
+    ),
+    (
+        &["sfbuild", "picture", "-"],
+        Asked::Script(Task::Picture, "-"),
+    ),
+    (
+        &["sfbuild", "picture", "./a b"],
+        Asked::Script(Task::Picture, "./a b"),
+    ),
+    (
+        &["sfbuild", "check", "--race", "a"],
+        Asked::Script(Task::CheckRace, "a"),
+    ),
+    (
+        &["sfbuild", "race", "--workers", "16", "a"],
+        Asked::Script(
+            Task::Race {
+                workers: 16,
+                is_shown: false,
+            },
+            "a",
+        ),
+    ),
+    (
+        &["sfbuild", "race", "--workers", "16", "a", "--progress"],
+        Asked::Script(
+            Task::Race {
+                workers: 16,
+                is_shown: true,
+            },
+            "a",
+        ),
+    ),
     (&["sfbuild", "shell"], Asked::Shell),
     (
         &[
-            "sfbuild", "index", "-", "--columns", "a:int,b:text,c:flag", "--unique", "b", "--on", "a:desc,b", "--workers", "3", "--range",
-            "1..", "--unique", "c", "--skip-bad",
+            "sfbuild",
+            "index",
+            "-",
+            "--columns",
+            "a:int,b:text,c:flag",
+            "--unique",
+            "b",
+            "--on",
+            "a:desc,b",
+            "--workers",
+            "3",
+            "--range",
+            "1..",
+            "--unique",
+            "c",
+            "--skip-bad",
         ],
         Asked::Indexes(&[("b", true), ("a:desc,b", false), ("c", true)]),
     ),
@@ -56,12 +115,39 @@ static WORDS: [(&[&str], Asked); 34] = [
     (&["sfbuild", "shell", "a"], Asked::Nothing),
     (&["sfbuild", "index", "a"], Asked::Nothing),
     (&["sfbuild", "index", "--columns", "a:int"], Asked::Nothing),
-    (&["sfbuild", "index", "a", "--columns", "a:int", "--workers", "17"], Asked::Nothing),
-    (&["sfbuild", "index", "a", "--columns", "a:int", "--find", "1", "--find", "2"], Asked::Nothing),
+    (
+        &[
+            "sfbuild",
+            "index",
+            "a",
+            "--columns",
+            "a:int",
+            "--workers",
+            "17",
+        ],
+        Asked::Nothing,
+    ),
+    (
+        &[
+            "sfbuild",
+            "index",
+            "a",
+            "--columns",
+            "a:int",
+            "--find",
+            "1",
+            "--find",
+            "2",
+        ],
+        Asked::Nothing,
+    ),
     (&["sfbuild", "--help"], REPLAY_HELP),
     (&["sfbuild", "replay", "--help"], REPLAY_HELP),
     (&["sfbuild", "help", "replay"], REPLAY_HELP),
-    (&["sfbuild", "--version"], Asked::Version("sfbuild 0.1.0 (Rattle, logic dac8208d650f15bf)\n")),
+    (
+        &["sfbuild", "--version"],
+        Asked::Version("sfbuild 0.1.0 (Rattle, logic dac8208d650f15bf)\n"),
+    ),
 ];
 
 fn are_asked(asked: &IndexWords<'_>, indexes: &[(&str, bool)]) -> bool {
@@ -82,7 +168,8 @@ fn has_rest(asked: &IndexWords<'_>) -> bool {
 
 fn is_choice(choice: &Choice<'_>, asked: Asked) -> bool {
     match (choice, asked) {
-        (Choice::Script { task, script }, Asked::Script(wanted, given)) => *task == wanted && *script == given,
+        (Choice::Script { task, script }, Asked::Script(wanted, given)) => *task == wanted
+            && *script == given,
         (Choice::Shell, Asked::Shell) => true,
         (Choice::Index(words), Asked::Indexes(indexes)) => are_asked(words, indexes),
         _ => false,

@@ -9,7 +9,7 @@ const ROWS: Lines = Lines {
     ..NO_LINES
 };
 
-pub const RUNS: [Run; 14] = [
+pub static RUNS: [Run; 14] = [
     Run {
         name: "two indexes with spools of both kinds",
         task: Task::Race(2),
@@ -21,14 +21,16 @@ in,1,begin,A
 in,1,insert,A,5
 in,1,commit,A
 ",
-        out: Out::Is("verdict,0,ready:0
+        out: Out::Is(
+            "verdict,0,ready:0
 verdict,1,ready:1
 session,1,3,0
 check,0,same
 check,1,same
 receipts,0
 pages,0
-"),
+",
+        ),
         ..SCRIPT
     },
     Run {
@@ -47,7 +49,8 @@ in,2,insert,B,1002,true
 in,2,update,B,0.2,1002,false
 in,2,commit,B
 ",
-        out: Out::Is("verdict,0,ready:0
+        out: Out::Is(
+            "verdict,0,ready:0
 verdict,1,ready:1
 session,1,5,0
 session,2,4,0
@@ -55,7 +58,8 @@ check,0,same
 check,1,same
 receipts,0
 pages,0
-"),
+",
+        ),
         ..SCRIPT
     },
     Run {
@@ -72,13 +76,15 @@ in,2,begin,B
 in,2,delete,B,0.3
 in,2,undo,B
 ",
-        out: Out::Is("verdict,0,ready:0
+        out: Out::Is(
+            "verdict,0,ready:0
 session,1,3,0
 session,2,3,0
 check,0,same
 receipts,0
 pages,0
-"),
+",
+        ),
         ..SCRIPT
     },
     Run {
@@ -91,12 +97,14 @@ in,1,begin,A
 in,1,insert,A,5
 in,1,commit,A
 ",
-        out: Out::Is("verdict,0,ready:0
+        out: Out::Is(
+            "verdict,0,ready:0
 session,1,3,0
 check,0,same
 receipts,0
 pages,0
-"),
+",
+        ),
         ..SCRIPT
     },
     Run {
@@ -104,10 +112,12 @@ pages,0
         task: Task::Race(1),
         begin: b"table,4,int\nrow,7\nrow,7\n",
         rest: b"build,4,even:1,u:0\ngo\n",
-        out: Out::Is("verdict,0,shared,7,0.0,0.1
+        out: Out::Is(
+            "verdict,0,shared,7,0.0,0.1
 receipts,0
 pages,0
-"),
+",
+        ),
         status: 1,
         ..SCRIPT
     },
@@ -117,10 +127,12 @@ pages,0
         begin: b"table,255,int\n",
         lines: Lines { count: 241, ..ROWS },
         rest: b"build,1,even:1,n:0\ngo\n",
-        out: Out::Is("fault,51,NoPage
+        out: Out::Is(
+            "fault,51,NoPage
 receipts,0
 pages,0
-"),
+",
+        ),
         status: 1,
         ..SCRIPT
     },
@@ -143,11 +155,13 @@ go
 in,1,begin,A
 in,1,update,A,0.0,2
 ",
-        out: Out::Is("fault,43,BadCount
+        out: Out::Is(
+            "fault,43,BadCount
 session,1,2,0
 receipts,0
 pages,0
-"),
+",
+        ),
         status: 1,
         ..SCRIPT
     },
@@ -156,11 +170,13 @@ pages,0
         task: Task::Race(16),
         begin: b"table,4,int\n",
         rest: b"build,4,even:1,n:0;0\ngo\nin,3,begin,A\n",
-        out: Out::Is("fault,10,BadColumn
+        out: Out::Is(
+            "fault,10,BadColumn
 session,3,1,0
 receipts,0
 pages,0
-"),
+",
+        ),
         status: 1,
         ..SCRIPT
     },
@@ -170,10 +186,12 @@ pages,0
         begin: b"table,4,int\n",
         lines: Lines { count: 1, ..ROWS },
         rest: b"build,4,2,n:0\ngo\n",
-        out: Out::Is("fault,42,BadRanges
+        out: Out::Is(
+            "fault,42,BadRanges
 receipts,0
 pages,0
-"),
+",
+        ),
         status: 1,
         ..SCRIPT
     },
@@ -193,7 +211,8 @@ in,8,update,B,1.0,8
 in,8,undo,B
 in,8,commit,B
 ",
-        out: Out::Is("verdict,0,ready:0
+        out: Out::Is(
+            "verdict,0,ready:0
 verdict,1,ready:1
 session,2,3,0
 session,5,0,1
@@ -202,7 +221,8 @@ check,0,same
 check,1,same
 receipts,0
 pages,0
-"),
+",
+        ),
         ..SCRIPT
     },
     Run {
@@ -219,13 +239,15 @@ pages,0
         name: "how far a build is, line by line",
         task: Task::Watched(false),
         rest: b"table,2,int\nrow,5\nrow,6\nrow,7\nbuild,4,even:1,n:0,u:0\ngo\n",
-        out: Out::Is("verdict,0,ready:0
+        out: Out::Is(
+            "verdict,0,ready:0
 verdict,1,ready:1
 check,0,same
 check,1,same
 receipts,0
 pages,0
-"),
+",
+        ),
         shown: "\
 scanning, pages: 1 of 2, changes left: 0
 loading, indexes: 1, pairs: 3, changes left: 0
@@ -239,13 +261,15 @@ catching up, turn: 1, changes left: 0, busy transactions: 0
         name: "how far a build is, on a terminal",
         task: Task::Watched(true),
         rest: b"table,2,int\nrow,5\nrow,6\nrow,7\nbuild,4,even:1,n:0,u:0\ngo\n",
-        out: Out::Is("verdict,0,ready:0
+        out: Out::Is(
+            "verdict,0,ready:0
 verdict,1,ready:1
 check,0,same
 check,1,same
 receipts,0
 pages,0
-"),
+",
+        ),
         shown: "\
 \r\x1b[Kscanning, pages: 1 of 2, changes left: 0\
 \r\x1b[Kloading, indexes: 1, pairs: 3, changes left: 0\

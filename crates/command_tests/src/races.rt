@@ -13,7 +13,7 @@ const GOOD: Run = Run {
     ..SCRIPT
 };
 
-pub const RUNS: [Run; 3] = [
+pub static RUNS: [Run; 3] = [
     GOOD,
     Run {
         name: "a race is good as a race",
@@ -31,7 +31,7 @@ pub const RUNS: [Run; 3] = [
 ];
 
 /// Bad scripts of races, each with what a check says of it.
-pub const EXPLAINED: [(&[u8], &str); 26] = [
+pub static EXPLAINED: [(&[u8], &str); 26] = [
     (
         b"table,4,int\nbuild,4,even:1,n:0\nbuild,4,even:1,n:0\ngo\n",
         "script: record 3 is bad: a build comes before go, and only once\n",
@@ -139,7 +139,7 @@ pub const EXPLAINED: [(&[u8], &str); 26] = [
 ];
 
 /// The same of scripts with neither a build nor `go` before what is wrong, where they are known to be races.
-pub const EXPLAINED_AS_RACES: [(&[u8], &str); 4] = [
+pub static EXPLAINED_AS_RACES: [(&[u8], &str); 4] = [
     (
         b"table,4,int\nfly\n",
         "script: record 2 is bad: field 1, \"fly\", is no command (table, row, spools, build, go or in)\n",

@@ -30,6 +30,8 @@ pub enum Out {
     /// How many lines there are, and how they begin.
     Begins(usize, &'static str),
     Ends(&'static str),
+    /// These parts stand in it, one behind the other.
+    Has(&'static [&'static str]),
     /// A picture of so many records, with these parts one behind the other.
     Draws(usize, &'static [&'static str]),
 }
@@ -87,19 +89,12 @@ impl Out {
             Out::Is(text) => out == text,
             Out::Begins(lines, text) => out.lines().count() == lines && out.starts_with(text),
             Out::Ends(text) => out.ends_with(text),
+            Out::Has(parts) => stand_in(out, parts),
             Out::Draws(records, parts) => {
                 out.matches("<g id=\"record-").count() == records
                     && stand_in(out, parts)
                     && is_well_formed(alloc, out.as_bytes())
             }
-        }
-    }
-
-    /// Whether that is a beginning of it, as far as it is known.
-    pub fn may_begin(self, out: &str) -> bool {
-        match self {
-            Out::Is(text) | Out::Begins(_, text) => text.starts_with(out),
-            Out::Ends(_) | Out::Draws(..) => true,
         }
     }
 }
@@ -126,7 +121,8 @@ impl Run {
     /// Whether that is what is to be printed.
     pub fn is(&self, alloc: Global, printed: &Printed) -> bool {
         let (out, err, status) = printed.parts();
-        (err, printed.shown(), status) == (self.err, self.shown, self.status) && self.out.is(alloc, out)
+        (err, printed.shown(), status) == (self.err, self.shown, self.status)
+            && self.out.is(alloc, out)
     }
 }
 

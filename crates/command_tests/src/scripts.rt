@@ -46,7 +46,11 @@ fn is_told<A: Threads + Wait + Sync>(rt: &A, alloc: Global, case: &Case) -> bool
 }
 
 /// The first of these cases that is told otherwise.
-fn told_otherwise<A: Threads + Wait + Sync>(rt: &A, alloc: Global, cases: &'static [Case]) -> Option<&'static str> {
+fn told_otherwise<A: Threads + Wait + Sync>(
+    rt: &A,
+    alloc: Global,
+    cases: &'static [Case],
+) -> Option<&'static str> {
     for case in cases {
         if !is_told(rt, alloc, case) {
             return Some(case.name);

@@ -118,7 +118,7 @@ pub static RECORDS: [&str; 113] = [
 ];
 
 /// Whole scripts, each with what a run says of its first bad record.
-pub const SCRIPTS: [(&[u8], &str); 11] = [
+pub static SCRIPTS: [(&[u8], &str); 11] = [
     (b"", "script: record 1 is bad\n"),
     (b"\n\n", "script: record 1 is bad\n"),
     (b"#a\n#b\n", "script: record 3 is bad\n"),

@@ -2,28 +2,34 @@
 
 use crate::run::{Run, told_otherwise};
 use crate::{
-    conversations, index_files, index_orders, index_refusals, long_scripts, pictures, race_runs, races,
+    conversations, index_files, index_orders, index_refusals, layers, long_scripts, pictures,
+    race_runs, races, verdicts,
 };
 use std::alloc::{AllocError, Global};
 use std::sync::Wait;
 use std::test::Fail;
 use std::thread::Threads;
 
-fn tables() -> [&'static [Run]; 8] {
+fn tables() -> [&'static [Run]; 10] {
     [
         &conversations::RUNS,
         &index_files::RUNS,
         &index_orders::RUNS,
         &index_refusals::RUNS,
+        &layers::RUNS,
         &long_scripts::RUNS,
         &pictures::RUNS,
         &race_runs::RUNS,
         &races::RUNS,
+        &verdicts::RUNS,
     ]
 }
 
 /// The first run that prints something else.
-fn any_told_otherwise<A: Threads + Wait + Sync>(rt: &A, alloc: Global) -> Result<Option<&'static str>, AllocError> {
+fn any_told_otherwise<A: Threads + Wait + Sync>(
+    rt: &A,
+    alloc: Global,
+) -> Result<Option<&'static str>, AllocError> {
     for runs in tables() {
         let other = told_otherwise(rt, alloc, runs)?;
         if other.is_some() {

@@ -48,12 +48,12 @@ fn rids_of(tree: &mut Tree, pairs: Vec<Pair>, key: &Key) -> Result<Vec<Rid>, Fau
     tree.rids(key)
 }
 
-/// Pairs of the keys of these numbers, each in its place.
-fn pairs_of(alloc: Global, numbers: &[u32]) -> Result<Vec<Pair>, Fault> {
+/// Pairs of the keys and the RIDs of these numbers.
+fn pairs_of(alloc: Global, numbers: &[(u32, u32)]) -> Result<Vec<Pair>, Fault> {
     let mut pairs = Vec::new(alloc);
-    for place in 0..numbers.len() {
-        let key = key(alloc, numbers[place])?;
-        let rid = rid(place as u32);
+    for (number, place) in numbers {
+        let key = key(alloc, *number)?;
+        let rid = rid(*place);
         pairs.push(Pair { key, rid })?;
     }
     Ok(pairs)
@@ -61,7 +61,7 @@ fn pairs_of(alloc: Global, numbers: &[u32]) -> Result<Vec<Pair>, Fault> {
 
 /// Whether a tree gives the RIDs of a key.
 pub fn finds_both(alloc: Global) -> Result<bool, Fault> {
-    let pairs = pairs_of(alloc, &[3, 8, 8])?;
+    let pairs = pairs_of(alloc, &[(8, 2), (3, 0), (8, 1)])?;
     let rids = rids_of(&mut Tree::new(alloc), pairs, &key(alloc, 8)?)?;
     Ok(rids.as_slice() == [rid(1), rid(2)].as_slice())
 }

@@ -47,8 +47,13 @@ fn has_copy(page: &Page, rows: &[Option<&[u8]>], parts: &[(usize, &[u8])]) -> bo
     let mut image = [0xff; PAGE_SIZE];
     page.copy_to(&mut image);
     for slot in 0..page.slots().saturating_add(1) {
-        let row = image_row(&image, slot);
-        if row != page.row(slot) || row != *rows.get(slot as usize).unwrap_or(&None) {
+        let copied = image_row(&image, slot);
+        let row = page.row(slot);
+        let wanted = match rows.get(slot as usize) {
+            Some(wanted) => *wanted,
+            None => None,
+        };
+        if copied != wanted || row != wanted {
             return false;
         }
     }
