@@ -3,7 +3,7 @@ ghost use Rattle.std.specs.Prelude.{All, map};
 ghost use Rattle.run_spool.specs.Spools.{AreSorted};
 ghost use Rattle.run_maker.specs.Making.{AreReady};
 
-use crate::fixtures::{add_rows, empty_table, key, number_row, rid};
+use crate::fixtures::{empty_table, key, number_row, rid, table_of};
 use crate::merges::fill;
 use crate::spools::plain_spool;
 use btree::Tree;
@@ -83,13 +83,11 @@ fn least<S: Spool>(alloc: Global, heap: &mut Heap, mut spools: Vec<S>) -> Result
 }
 
 fn is_least(alloc: Global, heap: &mut Heap) -> Result<bool, Fault> {
-    let txn = heap.begin()?;
-    add_rows(heap, txn, 5)?;
     let spools = vec![in alloc; plain_spool(alloc, 3)?]?;
     Ok(least(alloc, heap, spools)? == Some(Rid { page: 2, slot: 0 }))
 }
 
 /// Whether the last of five rows that count down has the least key.
 pub fn finds_least(alloc: Global) -> Result<bool, Fault> {
-    is_least(alloc, &mut empty_table(alloc, 2, 8)?)
+    is_least(alloc, &mut table_of(alloc, 5, 2)?)
 }

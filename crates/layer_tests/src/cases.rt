@@ -8,11 +8,14 @@ use crate::pools::{reclaims, refuses};
 use crate::rows::{self, Rows};
 use crate::spools::{keeps_boxed, keeps_plain};
 use crate::tables::{self, Shape};
+use crate::sorts::{IN_THREADS, LONGEST_RUN, sort_alike};
 use crate::trees::tree_answers;
-use crate::{entries, pages, workers};
+use crate::workers::pages_go_through;
+use crate::{entries, pages};
 use keybytes::Fault;
 use slotted_page::Page;
 use std::alloc::Global;
+use std::thread::Threads;
 
 /// The first step that is answered otherwise than it is to be, or why there are none to ask.
 pub type Told = Result<Option<usize>, Fault>;
@@ -28,13 +31,15 @@ pub enum Layer {
     Table(Shape, &'static [tables::Step]),
     Entries(&'static [entries::Step]),
     Merges(Course),
-    Worker(&'static [workers::Step]),
     Alone(Alone),
 }
 
 /// What has no steps.
 pub enum Alone {
     Tree,
+    Worker,
+    /// Threads sort so many pairs as one thread does.
+    Sorts(usize),
     /// A pool of four pages refuses these quotas.
     Refuses(&'static [u32]),
     /// A pool reclaims its accounts, of which the first gave its page back, or didn't.
@@ -53,7 +58,7 @@ pub struct Case {
     pub told: Told,
 }
 
-static OTHERS: [Case; 12] = [
+static OTHERS: [Case; 14] = [
     Case {
         name: "a tree of 1,000 pairs",
         layer: Layer::Alone(Alone::Tree),
@@ -61,7 +66,17 @@ static OTHERS: [Case; 12] = [
     },
     Case {
         name: "pages go through a ring",
-        layer: Layer::Worker(workers::CASE),
+        layer: Layer::Alone(Alone::Worker),
+        told: DONE,
+    },
+    Case {
+        name: "threads sort a run as one thread does",
+        layer: Layer::Alone(Alone::Sorts(LONGEST_RUN)),
+        told: DONE,
+    },
+    Case {
+        name: "threads sort more pairs as one thread does",
+        layer: Layer::Alone(Alone::Sorts(IN_THREADS)),
         told: DONE,
     },
     Case {
@@ -128,7 +143,7 @@ fn all() -> [&'static [Case]; 7] {
     ]
 }
 
-fn told(alloc: Global, layer: &Layer) -> Told {
+fn told<R: Threads + Sync>(rt: &R, alloc: Global, layer: &Layer) -> Told {
     match layer {
         Layer::Rows(steps) => first_other(&mut Rows(alloc), steps),
         Layer::Page(slots, steps) => first_other(&mut Page::new(*slots)?, steps),
@@ -136,8 +151,7 @@ fn told(alloc: Global, layer: &Layer) -> Told {
         Layer::Table(shape, steps) => tables::told(alloc, shape, steps),
         Layer::Entries(steps) => entries::told(alloc, steps),
         Layer::Merges(course) => merges::is_told(alloc, course).map(other_if),
-        Layer::Worker(steps) => workers::told(alloc, steps),
-        Layer::Alone(alone) => is_told(alloc, alone).map(other_if),
+        Layer::Alone(alone) => is_told(rt, alloc, alone).map(other_if),
     }
 }
 
@@ -145,9 +159,11 @@ fn other_if(is_told: bool) -> Option<usize> {
     if is_told { None } else { Some(0) }
 }
 
-fn is_told(alloc: Global, alone: &Alone) -> Result<bool, Fault> {
+fn is_told<R: Threads + Sync>(rt: &R, alloc: Global, alone: &Alone) -> Result<bool, Fault> {
     match *alone {
         Alone::Tree => tree_answers(alloc),
+        Alone::Worker => pages_go_through(alloc),
+        Alone::Sorts(count) => sort_alike(rt, alloc, count),
         Alone::Refuses(quotas) => refuses(alloc, quotas),
         Alone::Reclaims(gives_back) => reclaims(alloc, gives_back),
         Alone::Keeps(pages, count) => keeps_plain(alloc, pages, count),
@@ -159,17 +175,17 @@ fn is_told(alloc: Global, alone: &Alone) -> Result<bool, Fault> {
 }
 
 /// What is refused for want of memory is asked for once more.
-fn told_again(alloc: Global, layer: &Layer) -> Told {
-    match told(alloc, layer) {
-        Err(Fault::Memory) => told(alloc, layer),
+fn told_again<R: Threads + Sync>(rt: &R, alloc: Global, layer: &Layer) -> Told {
+    match told(rt, alloc, layer) {
+        Err(Fault::Memory) => told(rt, alloc, layer),
         told => told,
     }
 }
 
 /// The first of these cases that is told otherwise.
-fn told_otherwise(alloc: Global, cases: &'static [Case]) -> Option<(&'static str, Told)> {
+fn told_otherwise<R: Threads + Sync>(rt: &R, alloc: Global, cases: &'static [Case]) -> Option<(&'static str, Told)> {
     for case in cases {
-        let told = told_again(alloc, &case.layer);
+        let told = told_again(rt, alloc, &case.layer);
         if told != case.told {
             return Some((case.name, told));
         }
@@ -178,9 +194,9 @@ fn told_otherwise(alloc: Global, cases: &'static [Case]) -> Option<(&'static str
 }
 
 /// The same of all cases.
-fn any_told_otherwise(alloc: Global) -> Option<(&'static str, Told)> {
+fn any_told_otherwise<R: Threads + Sync>(rt: &R, alloc: Global) -> Option<(&'static str, Told)> {
     for cases in all() {
-        let other = told_otherwise(alloc, cases);
+        let other = told_otherwise(rt, alloc, cases);
         if other.is_some() {
             return other;
         }
@@ -190,5 +206,5 @@ fn any_told_otherwise(alloc: Global) -> Option<(&'static str, Told)> {
 
 #[test]
 fn are_told_where_memory_may_run_out(rt: HostRuntime) {
-    assert_eq!(rt; any_told_otherwise(rt.alloc()), None);
+    assert_eq!(rt; any_told_otherwise(&rt, rt.alloc()), None);
 }

@@ -35,6 +35,18 @@ pub fn add_rows(heap: &mut Heap, txn: u64, rows: u32) -> Result<Rid, Fault> {
     Ok(last)
 }
 
+/// A table of one column, whose rows count down to 1.
+pub fn table_of(alloc: Global, rows: u32, slots: u8) -> Result<Heap, Fault> {
+    let mut heap = empty_table(alloc, slots, 64)?;
+    fill(&mut heap, rows)?;
+    Ok(heap)
+}
+
+fn fill(heap: &mut Heap, rows: u32) -> Result<Rid, Fault> {
+    let txn = heap.begin()?;
+    add_rows(heap, txn, rows)
+}
+
 /// The key of a number; that of each seventh is too long to lie in place.
 pub fn key(alloc: Global, number: u32) -> Result<Key, Fault> {
     let mut key = Key::new(alloc);

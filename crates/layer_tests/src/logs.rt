@@ -127,18 +127,14 @@ fn long_key(alloc: Global) -> Result<Key, Fault> {
     Ok(key)
 }
 
-fn refusing_switch(alloc: Global) -> Result<LogRec, Fault> {
+fn copies_a_switch(alloc: Global) -> Result<bool, Fault> {
     let refused = Outcome::Shared {
         key: long_key(alloc)?,
         first: FIRST,
         second: SECOND,
     };
     let verdicts = Verdicts::new(vec![in alloc; refused]?);
-    Ok(LogRec::Switch { verdicts })
-}
-
-fn copies_a_switch(alloc: Global) -> Result<bool, Fault> {
-    Ok(refuses_long(&refusing_switch(alloc)?.clone()?))
+    Ok(refuses_long(&LogRec::Switch { verdicts }.clone()?))
 }
 
 fn refuses_long(record: &LogRec) -> bool {

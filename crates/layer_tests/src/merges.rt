@@ -7,11 +7,10 @@ ghost use Rattle.run_merge.specs.Merging.{all_runs};
 mod cases;
 mod filling;
 
-use crate::fixtures::{add_rows, empty_table};
+use crate::fixtures::table_of;
 use crate::spools::plain_spool;
 pub use cases::CASES;
 pub use filling::{fill, maker};
-use heap_table::Heap;
 use keybytes::{Fault, Rid};
 use run_merge::{Merged, merge};
 use run_spool::{Spool, are_empty};
@@ -27,13 +26,12 @@ pub struct Course {
     pub opens: bool,
     /// Whether there are two spools, with the same pairs.
     pub is_double: bool,
-    pub is_boxed: bool,
     /// How many pages a spool has.
     pub pages: u32,
     /// How many runs a spool has then, and how many pages it leases.
     pub filled: (usize, usize),
     pub first: &'static [Step],
-    /// How many pages a spool leases behind the first merge.
+    /// How many pages a spool leases behind the first merge; behind the second one it leases none.
     pub between: usize,
     pub second: &'static [Step],
 }
@@ -62,20 +60,11 @@ impl Course {
 
 /// Whether the course goes as it is to.
 pub fn is_told(alloc: Global, course: &Course) -> Result<bool, Fault> {
-    let spool = plain_spool(alloc, course.pages)?;
-    if course.is_boxed {
-        let one: Box<dyn Spool + Send> = Box::new(alloc, spool)?;
-        let other: Box<dyn Spool + Send> = Box::new(alloc, plain_spool(alloc, course.pages)?)?;
-        run(alloc, vec![in alloc; one, other]?, course)
-    } else if course.is_double {
-        run(
-            alloc,
-            vec![in alloc; spool, plain_spool(alloc, course.pages)?]?,
-            course,
-        )
-    } else {
-        run(alloc, vec![in alloc; spool]?, course)
+    let mut spools = vec![in alloc; plain_spool(alloc, course.pages)?]?;
+    if course.is_double {
+        spools.push(plain_spool(alloc, course.pages)?)?;
     }
+    run(alloc, spools, course)
 }
 
 /// Fills empty spools, and merges them twice.
@@ -85,20 +74,13 @@ fn run<S: Spool>(alloc: Global, mut spools: Vec<S>, course: &Course) -> Result<b
     }
     fill_from_table(alloc, course, spools.as_mut_slice())?;
     let left = merged(alloc, spools, course, course.first)?;
-    let is_between = lease(&left, course.between);
-    Ok(is_between && lease(&merged(alloc, left, course, course.second)?, 0))
+    let (runs, _) = course.filled;
+    let is_between = have(&left, (runs, course.between));
+    Ok(is_between && have(&merged(alloc, left, course, course.second)?, (runs, 0)))
 }
 
-fn lease<S: Spool>(spools: &[S], pages: usize) -> bool {
-    for spool in spools {
-        if spool.leased() != pages {
-            return false;
-        }
-    }
-    true
-}
-
-fn have<S: Spool>(spools: &[S], filled: (usize, usize)) -> bool {
+/// Whether each spool has so many runs, and leases so many pages.
+pub fn have<S: Spool>(spools: &[S], filled: (usize, usize)) -> bool {
     for spool in spools {
         if (spool.run_count(), spool.leased()) != filled {
             return false;
@@ -112,9 +94,7 @@ fn fill_from_table<S: Spool>(alloc: Global, course: &Course, spools: &mut [S]) -
     requires sorted { All AreSorted (map S.runs spools.old) }
     ensures { OnOk result (AreSorted (all_runs (map S.runs spools.new))) }
 {
-    let mut heap = empty_table(alloc, course.slots, 64)?;
-    let txn = heap.begin()?;
-    add_rows(&mut heap, txn, course.rows)?;
+    let mut heap = table_of(alloc, course.rows, course.slots)?;
     let opens = fill(alloc, &mut heap, course.seals, spools)?;
     if opens != course.opens || !have(spools, course.filled) {
         return Err(Fault::BadCount);

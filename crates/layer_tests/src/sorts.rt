@@ -3,11 +3,13 @@
 use keybytes::{Fault, Key, Pair, Rid};
 use run_maker::{LEAST_IN_THREADS, ParSort, RUN_PAIRS, RunSort, StdSort};
 use std::alloc::Global;
-use std::test::Fail;
 use std::thread::Threads;
 
-/// The longest run of a maker, and one that goes to several threads.
-const LENGTHS: [usize; 2] = [RUN_PAIRS, 70_000];
+/// The longest run of a maker.
+pub const LONGEST_RUN: usize = RUN_PAIRS;
+
+/// One that goes to several threads.
+pub const IN_THREADS: usize = 70_000;
 
 const _: () = prove!(RUN_PAIRS < LEAST_IN_THREADS && LEAST_IN_THREADS < 70_000);
 
@@ -25,11 +27,12 @@ fn pair(alloc: Global, place: usize) -> Result<Pair, Fault> {
     })
 }
 
-fn add_pairs(alloc: Global, count: usize, pairs: &mut Vec<Pair>) -> Result<(), Fault> {
+fn pairs(alloc: Global, count: usize) -> Result<Vec<Pair>, Fault> {
+    let mut pairs = Vec::new(alloc);
     for place in 0..count {
         pairs.push(pair(alloc, place)?)?;
     }
-    Ok(())
+    Ok(pairs)
 }
 
 /// Sorts both in their own way. Whether they are the same then.
@@ -43,23 +46,7 @@ fn sort_both<R: Threads + Sync>(
     Ok(one == other)
 }
 
-fn are_sorted_alike<R: Threads + Sync>(rt: &R, alloc: Global, count: usize) -> Result<bool, Fault> {
-    let mut one = Vec::new(alloc);
-    let mut other = Vec::new(alloc);
-    add_pairs(alloc, count, &mut one)?;
-    add_pairs(alloc, count, &mut other)?;
-    sort_both(rt, &mut one, &mut other)
-}
-
-#[test]
-fn threads_sort_as_one_thread_does(rt: HostRuntime) -> Result<(), Fail> {
-    let alloc = rt.alloc();
-    for count in LENGTHS {
-        let alike = match are_sorted_alike(&rt, alloc, count) {
-            Err(Fault::Memory) => are_sorted_alike(&rt, alloc, count),
-            alike => alike,
-        };
-        assert!(rt; alike == Ok(true));
-    }
-    Ok(())
+pub fn sort_alike<R: Threads + Sync>(rt: &R, alloc: Global, count: usize) -> Result<bool, Fault> {
+    let mut one = pairs(alloc, count)?;
+    sort_both(rt, &mut one, &mut pairs(alloc, count)?)
 }

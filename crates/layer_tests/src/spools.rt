@@ -17,7 +17,10 @@ pub fn plain_spool(alloc: Global, pages: u32) -> Result<PlainSpool, Fault>
     let Some(account) = pool.split(alloc, &[pages])?.pop() else {
         return Err(Fault::Memory);
     };
-    PlainSpool::new(alloc, account).map_err(|(_, fault)| fault)
+    match PlainSpool::new(alloc, account) {
+        Ok(spool) => Ok(spool),
+        Err((_, fault)) => Err(fault),
+    }
 }
 
 /// A pair of a key of nine bytes, which takes 17 bytes of a page.

@@ -11,7 +11,6 @@ const TWO_SPOOLS: Course = Course {
     seals: true,
     opens: false,
     is_double: true,
-    is_boxed: false,
     pages: 3,
     filled: (3, 3),
     first: &[
@@ -32,7 +31,6 @@ const FULL_PAGE: Course = Course {
     seals: false,
     opens: true,
     is_double: false,
-    is_boxed: false,
     pages: 1,
     filled: (1, 1),
     first: &[Step::Next(0, 239, 239)],
@@ -40,18 +38,10 @@ const FULL_PAGE: Course = Course {
     second: &[Step::Next(239, 1, 1)],
 };
 
-pub static CASES: [Case; 6] = [
+pub static CASES: [Case; 5] = [
     Case {
         name: "two spools of three runs each are merged",
         layer: Layer::Merges(TWO_SPOOLS),
-        told: DONE,
-    },
-    Case {
-        name: "two spools in boxes are merged",
-        layer: Layer::Merges(Course {
-            is_boxed: true,
-            ..TWO_SPOOLS
-        }),
         told: DONE,
     },
     Case {
