@@ -321,7 +321,16 @@ load,0
     },
     Run {
         name: "a range of a thousand rows",
-        task: Task::Index(&["--columns", "a:int", "--on", "a", "--range", "49..60"]),
+        task: Task::Index(&[
+            "--columns",
+            "a:int",
+            "--on",
+            "a",
+            "--workers",
+            "1",
+            "--range",
+            "49..60",
+        ]),
         begin: b"a\n",
         lines: Lines {
             count: 1_000,

@@ -237,7 +237,7 @@ pages,0
     },
     Story {
         run: WAITS,
-        flushes: 12,
+        least: Some((104, 229, 0)),
         unread: OF_A_CONVERSATION,
         unsent: "shell: an answer can't be written\n",
         is_early: true,
