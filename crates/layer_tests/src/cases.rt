@@ -4,11 +4,11 @@ use crate::calling::{finds_both, finds_least, rolls_back};
 use crate::desk::first_other;
 use crate::logs::{self, Records};
 use crate::merges::{self, Course};
-use crate::pools::{reclaims, refuses};
+use crate::pools::{reclaimed, refuses};
 use crate::rows::{self, Rows};
+use crate::sorts::{IN_THREADS, LONGEST_RUN, sort_alike};
 use crate::spools::{keeps_boxed, keeps_plain};
 use crate::tables::{self, Shape};
-use crate::sorts::{IN_THREADS, LONGEST_RUN, sort_alike};
 use crate::trees::tree_answers;
 use crate::workers::pages_go_through;
 use crate::{entries, pages};
@@ -42,8 +42,8 @@ pub enum Alone {
     Sorts(usize),
     /// A pool of four pages refuses these quotas.
     Refuses(&'static [u32]),
-    /// A pool reclaims its accounts, of which the first gave its page back, or didn't.
-    Reclaims(bool),
+    /// What a pool answers that reclaims its accounts, of which the first gave its page back, or didn't.
+    Reclaims(bool, Result<(), Fault>),
     /// A spool of so many pages takes so many pairs.
     Keeps(u32, u32),
     KeepsBoxed(u32, u32),
@@ -91,12 +91,12 @@ static OTHERS: [Case; 14] = [
     },
     Case {
         name: "a page that is missing",
-        layer: Layer::Alone(Alone::Reclaims(false)),
+        layer: Layer::Alone(Alone::Reclaims(false, Err(Fault::Short(1)))),
         told: DONE,
     },
     Case {
         name: "no page is missing",
-        layer: Layer::Alone(Alone::Reclaims(true)),
+        layer: Layer::Alone(Alone::Reclaims(true, Ok(()))),
         told: DONE,
     },
     Case {
@@ -165,7 +165,7 @@ fn is_told<R: Threads + Sync>(rt: &R, alloc: Global, alone: &Alone) -> Result<bo
         Alone::Worker => pages_go_through(alloc),
         Alone::Sorts(count) => sort_alike(rt, alloc, count),
         Alone::Refuses(quotas) => refuses(alloc, quotas),
-        Alone::Reclaims(gives_back) => reclaims(alloc, gives_back),
+        Alone::Reclaims(is_back, answer) => Ok(reclaimed(alloc, is_back)? == answer),
         Alone::Keeps(pages, count) => keeps_plain(alloc, pages, count),
         Alone::KeepsBoxed(pages, count) => keeps_boxed(alloc, pages, count),
         Alone::RollsBack => rolls_back(alloc),
@@ -183,7 +183,11 @@ fn told_again<R: Threads + Sync>(rt: &R, alloc: Global, layer: &Layer) -> Told {
 }
 
 /// The first of these cases that is told otherwise.
-fn told_otherwise<R: Threads + Sync>(rt: &R, alloc: Global, cases: &'static [Case]) -> Option<(&'static str, Told)> {
+fn told_otherwise<R: Threads + Sync>(
+    rt: &R,
+    alloc: Global,
+    cases: &'static [Case],
+) -> Option<(&'static str, Told)> {
     for case in cases {
         let told = told_again(rt, alloc, &case.layer);
         if told != case.told {

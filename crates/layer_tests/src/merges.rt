@@ -1,5 +1,5 @@
 //! Pairs that are made of a table, spooled and merged.
-ghost use Rattle.std.specs.Prelude.{◌≡◌, All, IfOk, OnOk, length, map};
+ghost use Rattle.std.specs.Prelude.{◌≡◌, All, IfOk, IsTrue, OnOk, map};
 ghost use Rattle.run_spool.specs.Spools.{AreSorted};
 ghost use Rattle.run_maker.specs.Making.{AreReady};
 ghost use Rattle.run_merge.specs.Merging.{all_runs};
@@ -67,9 +67,17 @@ pub fn is_told(alloc: Global, course: &Course) -> Result<bool, Fault> {
     run(alloc, spools, course)
 }
 
+/// Whether no spool has a run, or a pair in its open run.
+fn all_empty<S: Spool>(spools: &[S]) -> bool
+    ensures ready { IsTrue result → AreReady (map S.runs spools.now) (map S.open_run spools.now) }
+    ensures sorted { IsTrue result → All AreSorted (map S.runs spools.now) }
+{
+    are_empty(spools)
+}
+
 /// Fills empty spools, and merges them twice.
 fn run<S: Spool>(alloc: Global, mut spools: Vec<S>, course: &Course) -> Result<bool, Fault> {
-    if !are_empty(&spools) {
+    if !all_empty(&spools) {
         return Ok(false);
     }
     fill_from_table(alloc, course, spools.as_mut_slice())?;

@@ -1,4 +1,6 @@
 //! Pages, and the bytes of their copies.
+ghost use Rattle.std.specs.Prelude.{IsTrue, length};
+ghost use Rattle.slotted_page.specs.Slot.{IsRowSize};
 
 mod cases;
 
@@ -39,7 +41,9 @@ impl Desk for Page {
     }
 }
 
-fn is_row(bytes: &[u8]) -> bool {
+fn is_row(bytes: &[u8]) -> bool
+    ensures { IsTrue result → IsRowSize (length bytes.now) }
+{
     !bytes.is_empty() && bytes.len() <= MAX_ROW_SIZE
 }
 

@@ -17,20 +17,18 @@ fn is_refused(alloc: Global, pool: &mut Pool, quotas: &[u32]) -> Result<bool, Fa
     Ok(refused == Some(Fault::BadCount) && pool.split(alloc, &[PAGES])?.len() == 1)
 }
 
-/// Leases the first account's one page, and gives it back if asked; then the pool reclaims both accounts.
-pub fn reclaims(alloc: Global, gives_back: bool) -> Result<bool, Fault> {
+/// Leases the first account's one page, and gives it back if asked; what the pool answers that reclaims both accounts then.
+pub fn reclaimed(alloc: Global, gives_back: bool) -> Result<Result<(), Fault>, Fault> {
     let mut pool = Pool::new(alloc, 1, PAGES)?;
     let mut accounts = pool.split(alloc, &[1, 3])?;
     let first = &mut accounts[0];
     let page = first.lease()?;
-    let is_last = first.lease().err() == Some(Fault::NoPage) && first.free() == 0;
+    let none_left = first.lease().err() == Some(Fault::NoPage) && first.free() == 0;
     if gives_back {
         first.give_back(page);
     }
-    let wanted = if gives_back {
-        Ok(())
-    } else {
-        Err(Fault::Short(1))
-    };
-    Ok(pool.reclaim(accounts) == wanted && is_last)
+    if !none_left {
+        return Err(Fault::BadCount);
+    }
+    Ok(pool.reclaim(accounts))
 }
