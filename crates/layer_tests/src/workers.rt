@@ -57,6 +57,9 @@ pub fn pages_go_through(alloc: Global) -> Result<bool, Fault> {
     let mut intake = Intake::new(ring);
     intake.restart(&mut putter, 7);
     let maker = maker(alloc, &heap, 1)?;
+    if maker.has_open_run() {
+        return Ok(false);
+    }
     let spools = vec![in alloc; plain_spool(alloc, 1)?]?;
     let mut worker = Worker::new(alloc, 0, intake, maker, spools);
     takes_both(&mut heap, &mut putter, &mut worker)
