@@ -39,7 +39,7 @@ def answer_of(name):
 
 def strangers(folder):
     """The files of a folder's examples/ that belong to none of them, and those of the examples that aren't there."""
-    wanted = {f"examples/{name}" for name in asked()} | {answer_of(name) for name in asked()}
+    wanted = {"examples/README.md"} | {f"examples/{name}" for name in asked()} | {answer_of(name) for name in asked()}
     wanted |= {f"examples/{of}/{name}" for of, names in CALLERS.items() for name in names}
     found = {
         os.path.relpath(f"{at}/{name}", folder)
