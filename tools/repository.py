@@ -78,3 +78,21 @@ def copy_sources(listed, names, to):
     with open(f"{to}/crates.txt", "w", encoding="utf-8") as it:
         it.writelines(listed[name].line for name in names)
     shutil.copyfile(f"{ROOT}/HANDLES", f"{to}/HANDLES")
+
+
+def add_crate(root, name, stands_on, files):
+    """Adds a crate to a copy of the sources, and answers its folder."""
+    folder = f"{root}/crates/{name}"
+    for path, text in files.items():
+        os.makedirs(os.path.dirname(f"{folder}/{path}"), exist_ok=True)
+        with open(f"{folder}/{path}", "w", encoding="utf-8") as it:
+            it.write(text)
+    with open(f"{root}/crates.txt", "a", encoding="utf-8") as it:
+        it.write(f"{name}: {' '.join(stands_on)}\n")
+    return folder
+
+
+def free_memory():
+    """The bytes that a further program can have."""
+    with open("/proc/meminfo", encoding="ascii") as it:
+        return 1024 * int(re.search(r"MemAvailable:\s+(\d+)", it.read())[1])
