@@ -2,11 +2,18 @@
 import fcntl
 import hashlib
 import os
+import re
+
+# The files of a function's own proof, which no other proof can read.
+OF_A_FUNCTION = ("Answers.antt", "Invariants.antt", "Proof.antt")
+COMMENT = re.compile(r"\s*(//|--)")
+FUNCTION = re.compile(r"^( *)(?:#\[.*\] *)*(?:pub(?:\(\w+\))? +)?(?:unsafe +)?fn +\w+")
 
 
 class Tried:
-    """A line a crate: its name, a sum of the logic and of the files that its proof reads, its own and those of the crates below, and sums of
-    the edits that were refused over them."""
+    """A line a crate: its name, a sum of the logic and of all that a refusal rests on, and sums of the edits that were refused over it. A refusal
+    rests on the crate's own files, and of the crates below on what a proof above can read: their specs, their lemmas, and their sources
+    without the bodies of functions, all without lines of comments."""
 
     def __init__(self, parts, logic):
         self.file = f"{os.path.dirname(os.path.realpath(__file__))}/wrong-bodies.tried"
@@ -38,14 +45,20 @@ class Tried:
             os.replace(it.name, self.file)
 
     def sum_of_sources(self, crate):
+        texts = [(os.path.relpath(path, crate.folder), text_of(path)) for path in self.files_of(crate)]
+        return self.sum_of(repr(texts), crate)
+
+    def sum_of_statements(self, crate):
+        """A sum of what a proof above can read of a crate and of those below it."""
         if crate.name not in self.seen:
-            total = hashlib.sha256(self.logic.encode())
-            for path in self.files_of(crate):
-                with open(path, "rb") as it:
-                    total.update(repr((os.path.relpath(path, crate.folder), it.read())).encode())
-            total.update(" ".join(map(self.sum_of_sources, crate.deps)).encode())
-            self.seen[crate.name] = total.hexdigest()[:16]
+            files = [it for it in self.files_of(crate) if os.path.basename(it) not in OF_A_FUNCTION]
+            texts = [(os.path.relpath(path, crate.folder), without_comments(without_bodies(text_of(path)))) for path in files]
+            self.seen[crate.name] = self.sum_of(repr(texts), crate)
         return self.seen[crate.name]
+
+    def sum_of(self, texts, crate):
+        below = " ".join(map(self.sum_of_statements, crate.deps))
+        return hashlib.sha256(f"{self.logic}{texts}{below}".encode()).hexdigest()[:16]
 
     def files_of(self, crate):
         found = []
@@ -53,6 +66,36 @@ class Tried:
             for at, _, names in os.walk(f"{crate.folder}/{part}"):
                 found += [f"{at}/{name}" for name in names]
         return sorted(found)
+
+
+def text_of(path):
+    with open(path, encoding="utf-8") as it:
+        return it.read()
+
+
+def without_bodies(text):
+    """A source without the bodies of its functions, by the layout that `rt fmt` gives: a body opens at the end of a line that has the function's own
+    indent, and closes at that indent. A body that isn't found so stays."""
+    lines, kept, at = text.split("\n"), [], 0
+    while at < len(lines):
+        head = FUNCTION.match(lines[at])
+        opens = head and next((it for it in range(at, len(lines)) if ends_a_head(lines[it], head[1])), None)
+        if opens is None or not lines[opens].endswith("{"):
+            kept.append(lines[at])
+            at += 1
+            continue
+        kept += lines[at : opens + 1]
+        at = next((it for it in range(opens + 1, len(lines)) if lines[it] == f"{head[1]}}}"), opens + 1)
+    return "\n".join(kept)
+
+
+def without_comments(text):
+    return "\n".join(line for line in text.split("\n") if not COMMENT.match(line))
+
+
+def ends_a_head(line, indent):
+    """Whether a function's head ends with the line: a body opens, or has opened and closed, or there is none."""
+    return re.match(rf"{indent}\S", line) is not None and line.endswith(("{", "}", ";"))
 
 
 def sum_of_edit(path):
