@@ -14,7 +14,7 @@ SCRIPTS = {
     "unique_refused": 1,
     "while_in_use": 0,
 }
-# Callers of the library for C programs, which tools/callers and tools/sqlite-example try: the files of each folder.
+# Callers of the library for C programs, which tools/try/callers and tools/try/sqlite-example try: the files of each folder.
 CALLERS = {
     "c": ["caller.c", "caller.out", "events.c", "events.out", "first.c", "first.out", "steady.c", "steady.out"],
     "rust": ["caller.out", "caller.rs"],

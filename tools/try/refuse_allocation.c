@@ -1,7 +1,7 @@
 /*
  * Refuses one allocation of a program, so that what it does without memory can be seen with no new compilation.
  *
- *     cc -O2 -shared -fPIC -o refuse_allocation.so tools/refuse_allocation.c
+ *     cc -O2 -shared -fPIC -o refuse_allocation.so tools/try/refuse_allocation.c
  *     REFUSE_AT=N REFUSE_REPORT=FILE LD_PRELOAD=./refuse_allocation.so PROGRAM ...
  *
  * The Nth allocation that is asked for from `main` on, by whichever thread, gets no memory; with N 0 or not set none is refused.

@@ -1,7 +1,7 @@
 /*
  * Counts the memory of a program that is linked with it, and refuses one allocation.
  *
- *     cc .. tools/counted_memory.c -Wl,--wrap=malloc,--wrap=calloc,--wrap=realloc,--wrap=free
+ *     cc .. tools/try/counted_memory.c -Wl,--wrap=malloc,--wrap=calloc,--wrap=realloc,--wrap=free
  *     REFUSE_AT=N REFUSE_REPORT=FILE PROGRAM ...
  *
  * Counted is what the program and the static libraries in it ask for, by whichever thread, and not what the C library takes for itself. The Nth
