@@ -20,6 +20,11 @@ CALLERS = {
     "rust": ["caller.out", "caller.rs"],
     "sqlite": ["README.md", "building.c", "example.out", "example.sql", "functions.c", "reading.c", "sfbuild.c", "table.h", "tables.c", "transaction.c", "writing.c"],
 }
+# The words that tools/program answers at once, until the program is proved, from files of tools/help.
+HELP = {
+    "sfbuild": {"--help": "help.txt", "-h": "help.txt", "help": "help.txt", "--version": "version.txt", "-V": "version.txt"},
+    "sfbench": {"--help": "help.txt", "-h": "help.txt", "--version": "version.txt", "-V": "version.txt"},
+}
 INDEX_WORDS = ["--columns", "id:int,city:text,people:int", "--on", "people:desc,city", "--on", "city", "--unique", "id", "--range", ".."]
 
 
