@@ -1,7 +1,7 @@
 #!/usr/bin/env python3
 """Drives `./sfbuild shell` over a pipe: an index is built while a transaction writes, and its pairs are printed.
 
-    python3 examples/shell.py    in a release, or in the repository once `./sfbuild prove` has built the program; examples/shell.out is what it prints
+    python3 examples/shell.py    in a release or in the repository; examples/shell.out is what it prints
 """
 import csv
 import io

@@ -14,11 +14,16 @@ SCRIPTS = {
     "unique_refused": 1,
     "while_in_use": 0,
 }
-# Callers of the library for C programs, which tools/callers and tools/sqlite-example try: the files of each folder.
+# Callers of the library for C programs, which tools/try/callers and tools/try/sqlite-example try: the files of each folder.
 CALLERS = {
     "c": ["caller.c", "caller.out", "events.c", "events.out", "first.c", "first.out", "steady.c", "steady.out"],
     "rust": ["caller.out", "caller.rs"],
     "sqlite": ["README.md", "building.c", "example.out", "example.sql", "functions.c", "reading.c", "sfbuild.c", "table.h", "tables.c", "transaction.c", "writing.c"],
+}
+# The words that tools/program answers at once, until the program is proved, from files of tools/help.
+HELP = {
+    "sfbuild": {"--help": "help.txt", "-h": "help.txt", "help": "help.txt", "--version": "version.txt", "-V": "version.txt"},
+    "sfbench": {"--help": "help.txt", "-h": "help.txt", "--version": "version.txt", "-V": "version.txt"},
 }
 INDEX_WORDS = ["--columns", "id:int,city:text,people:int", "--on", "people:desc,city", "--on", "city", "--unique", "id", "--range", ".."]
 
@@ -39,7 +44,7 @@ def answer_of(name):
 
 def strangers(folder):
     """The files of a folder's examples/ that belong to none of them, and those of the examples that aren't there."""
-    wanted = {f"examples/{name}" for name in asked()} | {answer_of(name) for name in asked()}
+    wanted = {"examples/README.md"} | {f"examples/{name}" for name in asked()} | {answer_of(name) for name in asked()}
     wanted |= {f"examples/{of}/{name}" for of, names in CALLERS.items() for name in names}
     found = {
         os.path.relpath(f"{at}/{name}", folder)

@@ -97,7 +97,7 @@ static WHOLE: [Whole; 3] = [
         apart: 1,
         beginnings: 296,
     },
-    // Where the updates are many each beginning takes long; `tools/cut-script` runs them all.
+    // Where the updates are many each beginning takes long; `tools/try/cut-script` runs them all.
     Whole {
         run: ONE_TOO_MANY,
         check: Task::Check,

@@ -14,7 +14,7 @@ use Rattle.crew.proofs.progress.Progress.TheSendSync as progress
 use Rattle.log_prefixes.specs.declared.named.Named as named
 use Rattle.page_workers.specs.declared.table.Table as table
 use Rattle.live_table.proofs.Crosses.{live_send}
-use Rattle.crew.specs.declared.opened.Opened as opened
+use Rattle.crew.specs.declared.table.opened.Opened as opened
 use Rattle.crew.specs.contracts.locked.Locked as Locked
 use Rattle.crew.specs.contracts.locked.Locked.TheInside as Inside
 use Rattle.crew.specs.contracts.table.Table as Table

@@ -6,11 +6,22 @@ ghost use Rattle.building.specs.Lent.{CanLend};
 ghost use Rattle.crew.specs.Reports.{EndsFor, HasUnique, IsOther, IsReport, lists_in};
 ghost use Rattle.crew.specs.Places.{GoesOnWith, HasPairsLeft, StillScans, stakes_beside};
 
-use crate::loading::load_all;
-use crate::scanning::scan_all;
-use crate::{BuildFault, Gate, Opened, Point, Report, Table};
+mod comes_back;
+mod gate;
+mod loading;
+mod range_queue;
+mod report;
+mod scanning;
+mod threads;
+mod working;
+
+use crate::online_build::loading::load_all;
+use crate::online_build::scanning::scan_all;
+use crate::{Opened, Table};
 use builder_core::{Building, Ends, Plan};
+pub use gate::{Gate, Point};
 use keybytes::Fault;
+pub use report::{BuildFault, Report};
 use run_spool::Spool;
 use std::alloc::Global;
 use std::sync::Wait;

@@ -1,6 +1,17 @@
 ghost use Rattle.std.specs.Prelude.{◌≡◌, ◌≤◌};
 
-use crate::Phase;
+/// What the build of a table does.
+#[derive(Clone, Copy, PartialEq, Eq)]
+pub enum Phase {
+    /// No build runs.
+    Idle,
+    /// The workers copy pages and make their pairs.
+    Scanning,
+    /// The pairs of the indexes are put in order.
+    Loading,
+    /// What was written meanwhile is fed and applied, and the switch is tried.
+    CatchingUp,
+}
 
 /// How far the build of a table is, as it was in one hold of the table's lock. But for `busy`, all is 0 where no build runs.
 #[derive(Clone, Copy, PartialEq, Eq)]

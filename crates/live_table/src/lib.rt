@@ -9,12 +9,6 @@
 
 mod changes;
 mod live;
-mod live_builds;
-mod live_part;
-mod live_sides;
-mod live_switch;
-mod live_workers;
-mod live_writes;
 mod parts;
 mod rest;
 mod shut_live;

@@ -20,6 +20,13 @@ ghost use Rattle.build_events.specs.CoreState.{abandoned, after_visits, ReadyFol
 ghost use Rattle.ready_indexes.specs.Following.{indexes_of};
 ghost use Rattle.ready_indexes.specs.KeyCauses.{KeysAreGuarded};
 
+mod builds;
+mod part;
+mod sides;
+mod switch;
+mod workers;
+mod writes;
+
 use crate::rest::at_rest;
 use crate::shut_live::ShutLive;
 use crate::{Pair, Table};
