@@ -98,6 +98,71 @@ fn are_replayed(rt: HostRuntime) {
     assert_eq!(rt; first_otherwise(rt.alloc(), Task::Replay, ""), Ok(None));
 }
 
+/// The first story with that name, or of all where it is empty, that goes otherwise where memory may run out once. A story that wasn't begun for want of memory is
+/// told again.
+fn first_where_short(
+    alloc: Global,
+    name: &str,
+) -> Result<Option<(&'static str, [usize; 4])>, Fault> {
+    match first_otherwise(alloc, Task::Tell(Mode::Short), name) {
+        Err(_) => first_otherwise(alloc, Task::Tell(Mode::Short), name),
+        told => told,
+    }
+}
+
+#[test]
+fn are_told_where_memory_may_run_out(rt: HostRuntime) {
+    assert_eq!(rt; first_where_short(rt.alloc(), ""), Ok(None));
+}
+
+#[test]
+fn are_listed_where_memory_may_run_out(rt: HostRuntime) {
+    let told = first_otherwise(rt.alloc(), Task::List(true), "");
+    assert!(rt; told == Ok(None) || told == Err(Fault::Memory));
+}
+
+// Each of those below is run by itself, with each of its allocations refused in turn.
+
+#[test]
+fn inserted_ahead_where_memory_may_run_out(rt: HostRuntime) {
+    assert_eq!(rt; first_where_short(rt.alloc(), "inserted ahead"), Ok(None));
+}
+
+#[test]
+fn shared_for_a_while_where_memory_may_run_out(rt: HostRuntime) {
+    assert_eq!(rt; first_where_short(rt.alloc(), "shared for a while"), Ok(None));
+}
+
+#[test]
+fn many_left_where_memory_may_run_out(rt: HostRuntime) {
+    assert_eq!(rt; first_where_short(rt.alloc(), "many entries left"), Ok(None));
+}
+
+#[test]
+fn undone_after_where_memory_may_run_out(rt: HostRuntime) {
+    assert_eq!(rt; first_where_short(rt.alloc(), "undone after the switch"), Ok(None));
+}
+
+#[test]
+fn two_indexes_where_memory_may_run_out(rt: HostRuntime) {
+    assert_eq!(rt; first_where_short(rt.alloc(), "two indexes"), Ok(None));
+}
+
+#[test]
+fn three_writes_back_where_memory_may_run_out(rt: HostRuntime) {
+    assert_eq!(rt; first_where_short(rt.alloc(), "three writes back"), Ok(None));
+}
+
+#[test]
+fn ring_full_where_memory_may_run_out(rt: HostRuntime) {
+    assert_eq!(rt; first_where_short(rt.alloc(), "a ring that is full"), Ok(None));
+}
+
+#[test]
+fn grows_behind_where_memory_may_run_out(rt: HostRuntime) {
+    assert_eq!(rt; first_where_short(rt.alloc(), "a tree that grows behind the scan"), Ok(None));
+}
+
 /// Wherever a push or a read is refused the build is spoiled and nothing is lost.
 #[test]
 fn each_fault_of_a_spool_spoils_the_build(rt: HostRuntime) {

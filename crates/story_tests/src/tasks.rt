@@ -177,7 +177,8 @@ fn stops(alloc: Global, prepared: &Prepared<'_>) -> Result<Other, Fault> {
             turns: &prepared.turns[..count],
             ..*prepared
         };
-        if let Some(number) = told(alloc, &first, Mode::Stopped, &mut ran)? {
+        let last = first.turns.last().map_or(0, |turn| turn.number);
+        if let Some(number) = told(alloc, &first, Mode::Stopped(last), &mut ran)? {
             return Ok(Some([number, count, 0, 0]));
         }
     }

@@ -21,8 +21,8 @@ pub enum Mode {
     Short,
     /// One of its spools fails at that place, if it comes so far.
     Faulted(Place, bool),
-    /// It is abandoned behind its last record.
-    Stopped,
+    /// It is abandoned behind its last record, which has that number: what came before it is compared where the story is stopped earlier.
+    Stopped(usize),
 }
 
 /// How a story goes on.
@@ -52,12 +52,19 @@ fn is_work(command: &Command) -> bool {
     )
 }
 
-/// Whether a record may be answered so. The fault comes once; from then on the build is spoiled.
-fn is_answer(place: Place, came: &mut u32, turn: &Turn<'_>, answer: &Answer) -> bool {
+/// Whether a record may be answered so. The fault comes once; from then on the build is spoiled. What comes before it and can't meet it is compared where it
+/// isn't reached.
+fn is_answer(
+    place: Place,
+    is_reached: bool,
+    came: &mut u32,
+    turn: &Turn<'_>,
+    answer: &Answer,
+) -> bool {
     if *came > 0 && is_work(&turn.command) {
         return is_refused_for(answer, place.fault());
     }
-    if turn.is_told(answer) {
+    if is_reached && *came == 0 && !place.is_met_by(&turn.command) || turn.is_told(answer) {
         return true;
     }
     if *came > 0 || !place.is_met_by(&turn.command) || !is_refused_for(answer, place.fault()) {
@@ -84,11 +91,14 @@ fn goes<S: Made, T: Table>(
             Ok(went) => went,
             Err(_) => Went::Otherwise,
         },
-        Mode::Faulted(place, _) => {
+        Mode::Faulted(place, is_reached) => {
             let answer = stand.answer(&turn.command);
-            on_if(is_answer(place, came, turn, &answer))
+            on_if(is_answer(place, is_reached, came, turn, &answer))
         }
-        Mode::Stopped => on_if(turn.is_told(&stand.answer(&turn.command))),
+        Mode::Stopped(last) => {
+            let answer = stand.answer(&turn.command);
+            on_if(turn.number < last || turn.is_told(&answer))
+        }
     }
 }
 
@@ -127,7 +137,7 @@ fn is_over<S: Made, T: Table>(stand: &mut Stand<S, T>, mode: Mode, came: &mut u3
         Mode::Plain | Mode::Short => true,
         Mode::Faulted(place, true) => *came == 1 && gives_up(stand, place.fault()),
         Mode::Faulted(_, false) => *came == 0,
-        Mode::Stopped => is_stopped(stand, came),
+        Mode::Stopped(_) => is_stopped(stand, came),
     }
 }
 
