@@ -6,7 +6,7 @@ use script::{Command, Label, Spec, Start};
 use std::alloc::Global;
 
 /// The transaction that a label is the number of; from the one on that was begun beside the story's each has a number more.
-fn txn_of(label: &Label, beside: u64) -> u64 {
+pub fn txn_of(label: &Label, beside: u64) -> u64 {
     let txn: u64 = label.as_str().parse().unwrap_or(0);
     if txn >= beside {
         txn.saturating_add(1)
@@ -15,7 +15,7 @@ fn txn_of(label: &Label, beside: u64) -> u64 {
     }
 }
 
-fn row(alloc: Global, cells: &[Cell]) -> Result<Row, Fault> {
+pub fn row(alloc: Global, cells: &[Cell]) -> Result<Row, Fault> {
     let mut copies = Vec::with_capacity(alloc, cells.len())?;
     for cell in cells {
         copies.push(cell.clone()?)?;

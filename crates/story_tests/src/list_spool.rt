@@ -3,6 +3,7 @@ ghost use Rattle.std.specs.Prelude.{◌≡◌, [], All, length, IfOk, IfErr, vec
 ghost use Rattle.story_tests.specs.ListSpools.{IsSpare, new_list};
 
 use crate::list_run::ListRun;
+use crate::watch::Watch;
 use keybytes::{Fault, Key, Pair, Rid};
 use run_spool::Spool;
 use spool_ledger::Account;
@@ -11,17 +12,19 @@ use std::marker::Model;
 use std::mem::replace;
 
 /// Runs of pairs in lists: so many runs, each with at most so many pairs. It takes its memory when it is made; runs that were ended
-/// make no room for others. There is no account behind it.
+/// make no room for others. There is no account behind it. Its first push, which falls in a digest, may be held up.
 #[derive(Drop)]
-pub struct ListSpool {
+pub struct ListSpool<'w> {
     runs: Vec<ListRun>,
     open_run: Vec<Pair>,
     /// Lists for further open runs.
     spare: Vec<Vec<Pair>>,
     limit: usize,
+    /// Where the first push is held up.
+    pub holding: Option<&'w Watch>,
 }
 
-impl Model for ListSpool {
+impl<'w> Model for ListSpool<'w> {
     ghost use Rattle.std.specs.Prelude.{length, vec_capacity};
     ghost use Rattle.story_tests.specs.ListSpools.{ListSpoolValue, IsListSpool};
 
@@ -51,9 +54,9 @@ fn lists(alloc: Global, count: usize, limit: usize) -> Result<Vec<Vec<Pair>>, Fa
     Ok(lists)
 }
 
-impl ListSpool {
+impl<'w> ListSpool<'w> {
     /// A spool with no run, for so many runs of so many pairs.
-    pub fn new(alloc: Global, runs: usize, limit: usize) -> Result<ListSpool, Fault>
+    pub fn new(alloc: Global, runs: usize, limit: usize) -> Result<ListSpool<'w>, Fault>
         ensures made { IfOk result (λ spool. spool ≡ new_list runs limit) }
         ensures memory { IfErr result (λ fault. fault ≡ Fault.Memory) }
     {
@@ -62,11 +65,12 @@ impl ListSpool {
             open_run: Vec::with_capacity(alloc, limit)?,
             spare: lists(alloc, runs, limit)?,
             limit,
+            holding: None,
         })
     }
 }
 
-impl Spool for ListSpool {
+impl Spool for ListSpool<'_> {
     ghost use Rattle.std.specs.Prelude.{◌≡◌, [], None};
     ghost use Rattle.story_tests.specs.ListSpools.{IsFullList};
 
@@ -87,6 +91,9 @@ impl Spool for ListSpool {
     }
 
     fn push(&mut self, pair: Pair) -> Result<(), (Pair, Fault)> {
+        if let Some(watch) = self.holding.take() {
+            watch.hold_for_insert();
+        }
         if self.open_run.len() >= self.limit || self.spare.is_empty() {
             return Err((pair, Fault::NoPage));
         }

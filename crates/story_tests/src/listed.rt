@@ -1,5 +1,5 @@
 //! The first events of a story, told as one list.
-ghost use Rattle.std.specs.Prelude.{◌≡◌};
+ghost use Rattle.std.specs.Prelude.{◌≡◌, All, map};
 
 use crate::events::event;
 use crate::made::{Made, list_spool, plain_spool, pool_of};
@@ -10,19 +10,15 @@ use crate::story::{Kind, NONE, Stock};
 use crate::tasks::{Other, Prepared, parts, start_of};
 use crate::telling::{Mode, Went, on_if, told_otherwise};
 use crate::turns::Turn;
-use builder_core::{Event, Parts, Reply, Table, run_events};
-use faulty_spool::FaultySpool;
+use builder_core::{Ends, Event, Live, Parts, Reply, Table, run_events};
 use keybytes::{Fault, Schema};
 use run_spool::{PlainSpool, Spool};
+use spool_kinds::FaultySpool;
 use std::alloc::Global;
 use std::marker::Brand;
 
 /// The events with which the records begin.
-fn first_events(
-    alloc: Global,
-    schema: &Schema,
-    turns: &[Turn<'_>],
-) -> Result<Vec<Event>, Fault> {
+fn first_events(alloc: Global, schema: &Schema, turns: &[Turn<'_>]) -> Result<Vec<Event>, Fault> {
     let mut events = Vec::new(alloc);
     for turn in turns {
         match event(alloc, schema, &turn.command, u64::MAX)? {
@@ -79,11 +75,31 @@ fn goes_behind<S: Made, T: Table>(
     let went = replies_go(stand, turns, replies, is_short);
     stand.ended();
     match went {
-        Went::On if !is_short => on_if(
-            told_otherwise(stand, alloc, &turns[count..], Mode::Plain, &mut 0).is_none(),
-        ),
+        Went::On if !is_short => on_if(told_otherwise(
+            stand,
+            alloc,
+            &turns[count..],
+            Mode::Plain,
+            &mut 0,
+        ).is_none()),
         went => went,
     }
+}
+
+/// Does a list of events on a table, beside these spools, which come back ended.
+fn run_on<S: Spool, T: Table>(
+    alloc: Global,
+    parts: Parts,
+    spools: Vec<S>,
+    events: &[Event],
+) -> (Live<T>, Ends<T>, Vec<S>, Result<Vec<Reply>, Fault>)
+    requires pages { parts.pages ≡ T.pages }
+    requires sides { parts.sides ≡ T.sides }
+    ensures ended { All S.ended result.2.items }
+    ensures stakes { map S.stake result.2.items ≡ map S.stake spools.items }
+{
+    let (live, ends) = parts.open::<T>();
+    run_events(alloc, live, ends, spools, events)
 }
 
 fn listed_on<S: Made, T: Table>(
@@ -97,8 +113,7 @@ fn listed_on<S: Made, T: Table>(
     requires pages { parts.pages ≡ T.pages }
     requires sides { parts.sides ≡ T.sides }
 {
-    let (live, ends) = parts.open::<T>();
-    let (live, ends, spools, replies) = run_events(alloc, live, ends, spools, events);
+    let (live, ends, spools, replies) = run_on::<S, T>(alloc, parts, spools, events);
     let mut stand = Stand::new(alloc, live, ends, spools, stock_of(turns), None);
     let went = match replies {
         Ok(replies) => goes_behind(&mut stand, alloc, turns, replies, is_short),
@@ -133,11 +148,7 @@ fn listed_in_boxes(alloc: Global, told: &Prepared<'_>, is_short: bool) -> Result
 }
 
 /// Where the list or what is behind it goes otherwise, over new spools for its build.
-pub fn told_as_list(
-    alloc: Global,
-    told: &Prepared<'_>,
-    is_short: bool,
-) -> Result<Other, Fault> {
+pub fn told_as_list(alloc: Global, told: &Prepared<'_>, is_short: bool) -> Result<Other, Fault> {
     let place: Option<Place> = None;
     match told.story.kind {
         Kind::Boxed => listed_in_boxes(alloc, told, is_short),

@@ -4,9 +4,9 @@ ghost use Rattle.std.specs.Prelude.{◌≡◌, [], IfOk};
 use crate::list_spool::ListSpool;
 use crate::place::{Place, coming_to};
 use crate::story::Stock;
-use faulty_spool::FaultySpool;
 use keybytes::{Fault, Key, Pair, Rid};
 use run_spool::{PlainSpool, Spool, give_up};
+use spool_kinds::FaultySpool;
 use spool_ledger::Pool;
 use std::alloc::Global;
 
@@ -83,16 +83,16 @@ impl Made for FaultySpool<PlainSpool> {
 }
 
 /// A spool for four runs of eight pairs each.
-pub fn list_spool(alloc: Global) -> Result<ListSpool, Fault> {
+pub fn list_spool<'w>(alloc: Global) -> Result<ListSpool<'w>, Fault> {
     ListSpool::new(alloc, 4, 8)
 }
 
-impl Made for ListSpool {
+impl<'w> Made for ListSpool<'w> {
     fn made(
         alloc: Global,
         stock: Stock,
         _place: Option<Place>,
-    ) -> Result<Vec<ListSpool>, Fault> {
+    ) -> Result<Vec<ListSpool<'w>>, Fault> {
         let mut spools = Vec::new(alloc);
         for _ in 0..stock.count {
             spools.push(list_spool(alloc)?)?;
@@ -125,11 +125,8 @@ fn accounts_behind<S: Spool>(spool: S, quota: u32) -> usize {
     let is_ended = spool.is_empty() && spool.leased() == 0;
     match give_up(spool) {
         None if is_ended => 0,
-        Some(account)
-            if is_ended && account.quota() == quota && account.free() == quota as usize =>
-        {
-            1
-        }
+        Some(account) if is_ended && account.quota() == quota && account.free() == quota as usize =>
+            { 1 }
         _ => usize::MAX,
     }
 }

@@ -1,8 +1,8 @@
 //! Where in a build's spools a fault comes.
 
-use faulty_spool::Coming;
 use keybytes::Fault;
 use script::Command;
+use spool_kinds::Coming;
 
 /// One place where a spool can fail.
 #[derive(Clone, Copy)]

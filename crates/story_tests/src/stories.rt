@@ -18,6 +18,7 @@ use crate::tasks::{Other, Task, otherwise};
 use crate::telling::Mode;
 use keybytes::Fault;
 use std::alloc::Global;
+use std::process::Abort;
 
 const COUNT: usize = 12;
 
@@ -50,127 +51,145 @@ fn is_for(story: &Story, task: Task) -> bool {
     }
 }
 
-/// The first of these stories that goes otherwise, of all or of those with that name.
-fn first_of(
-    alloc: Global,
-    stories: &'static [Story],
-    task: Task,
-    name: &str,
-) -> Result<Option<(&'static str, [usize; 4])>, Fault> {
+/// The story that goes otherwise, and where; or why none could be told.
+type Found = Result<Option<(&'static str, [usize; 4])>, Fault>;
+
+fn found_in(alloc: Global, story: &'static Story, task: Task) -> Found {
+    let other = otherwise(alloc, story, task)?;
+    Ok(other.map(|at| (story.name, at)))
+}
+
+/// The first of these stories that goes otherwise.
+fn first_of(alloc: Global, stories: &'static [Story], task: Task) -> Found {
     for story in stories {
-        if !is_for(story, task) || !(name.is_empty() || story.name == name) {
+        if !is_for(story, task) {
             continue;
         }
-        if let Some(other) = otherwise(alloc, story, task)? {
-            return Ok(Some((story.name, other)));
+        let found = found_in(alloc, story, task)?;
+        if found.is_some() {
+            return Ok(found);
         }
     }
     Ok(None)
 }
 
 /// The same of all files.
-fn first_otherwise(
-    alloc: Global,
-    task: Task,
-    name: &str,
-) -> Result<Option<(&'static str, [usize; 4])>, Fault> {
+fn first_otherwise(alloc: Global, task: Task) -> Found {
     for number in 0..COUNT {
-        let other = first_of(alloc, stories(number), task, name)?;
-        if other.is_some() {
-            return Ok(other);
+        let found = first_of(alloc, stories(number), task)?;
+        if found.is_some() {
+            return Ok(found);
         }
     }
     Ok(None)
 }
 
+/// The same of one of the stories of which each allocation is refused in turn. A story that wasn't begun for want of memory is told again.
+fn one_where_short(alloc: Global, name: &str) -> Found {
+    for story in &growing::STORIES {
+        if story.name == name {
+            return match found_in(alloc, story, SHORT) {
+                Err(_) => found_in(alloc, story, SHORT),
+                found => found,
+            };
+        }
+    }
+    Err(Fault::BadCount)
+}
+
+const SHORT: Task = Task::Tell(Mode::Short);
+
+/// Asserts that nothing was found otherwise.
+fn expect_none<R: Abort>(rt: &R, found: Found) {
+    assert_eq!(rt; found, Ok(None));
+}
+
 #[test]
 fn are_told_as_they_should_be(rt: HostRuntime) {
-    assert_eq!(rt; first_otherwise(rt.alloc(), Task::Tell(Mode::Plain), ""), Ok(None));
+    expect_none(&rt, first_otherwise(rt.alloc(), Task::Tell(Mode::Plain)));
 }
 
 #[test]
 fn are_listed(rt: HostRuntime) {
-    assert_eq!(rt; first_otherwise(rt.alloc(), Task::List(false), ""), Ok(None));
+    expect_none(&rt, first_otherwise(rt.alloc(), Task::List(false)));
 }
 
 #[test]
 fn are_replayed(rt: HostRuntime) {
-    assert_eq!(rt; first_otherwise(rt.alloc(), Task::Replay, ""), Ok(None));
+    expect_none(&rt, first_otherwise(rt.alloc(), Task::Replay));
 }
 
-/// The first story with that name, or of all where it is empty, that goes otherwise where memory may run out once. A story that wasn't begun for want of memory is
-/// told again.
-fn first_where_short(
-    alloc: Global,
-    name: &str,
-) -> Result<Option<(&'static str, [usize; 4])>, Fault> {
-    match first_otherwise(alloc, Task::Tell(Mode::Short), name) {
-        Err(_) => first_otherwise(alloc, Task::Tell(Mode::Short), name),
-        told => told,
-    }
+/// Wherever a push or a read is refused the build is spoiled and nothing is lost.
+#[test]
+fn each_fault_of_a_spool_spoils_the_build(rt: HostRuntime) {
+    expect_none(&rt, first_otherwise(rt.alloc(), Task::Faults));
 }
 
+/// Wherever a story is stopped, an abandon is refused exactly where no build runs, and all spools and pages come back.
+#[test]
+fn a_build_can_be_abandoned_anywhere(rt: HostRuntime) {
+    expect_none(&rt, first_otherwise(rt.alloc(), Task::Stops));
+}
+
+/// `rt try --test --fail-alloc N` for each N shows that no allocation that fails gives a wrong answer or loses a page.
 #[test]
 fn are_told_where_memory_may_run_out(rt: HostRuntime) {
-    assert_eq!(rt; first_where_short(rt.alloc(), ""), Ok(None));
+    let found = match first_otherwise(rt.alloc(), SHORT) {
+        Err(_) => first_otherwise(rt.alloc(), SHORT),
+        found => found,
+    };
+    expect_none(&rt, found);
 }
 
 #[test]
 fn are_listed_where_memory_may_run_out(rt: HostRuntime) {
-    let told = first_otherwise(rt.alloc(), Task::List(true), "");
-    assert!(rt; told == Ok(None) || told == Err(Fault::Memory));
+    match first_otherwise(rt.alloc(), Task::List(true)) {
+        Err(Fault::Memory) => {}
+        found => expect_none(&rt, found),
+    }
 }
 
 // Each of those below is run by itself, with each of its allocations refused in turn.
 
 #[test]
 fn inserted_ahead_where_memory_may_run_out(rt: HostRuntime) {
-    assert_eq!(rt; first_where_short(rt.alloc(), "inserted ahead"), Ok(None));
+    expect_none(&rt, one_where_short(rt.alloc(), "inserted ahead"));
 }
 
 #[test]
 fn shared_for_a_while_where_memory_may_run_out(rt: HostRuntime) {
-    assert_eq!(rt; first_where_short(rt.alloc(), "shared for a while"), Ok(None));
+    expect_none(&rt, one_where_short(rt.alloc(), "shared for a while"));
 }
 
 #[test]
 fn many_left_where_memory_may_run_out(rt: HostRuntime) {
-    assert_eq!(rt; first_where_short(rt.alloc(), "many entries left"), Ok(None));
+    expect_none(&rt, one_where_short(rt.alloc(), "many entries left"));
 }
 
 #[test]
 fn undone_after_where_memory_may_run_out(rt: HostRuntime) {
-    assert_eq!(rt; first_where_short(rt.alloc(), "undone after the switch"), Ok(None));
+    expect_none(&rt, one_where_short(rt.alloc(), "undone after the switch"));
 }
 
 #[test]
 fn two_indexes_where_memory_may_run_out(rt: HostRuntime) {
-    assert_eq!(rt; first_where_short(rt.alloc(), "two indexes"), Ok(None));
+    expect_none(&rt, one_where_short(rt.alloc(), "two indexes"));
 }
 
 #[test]
 fn three_writes_back_where_memory_may_run_out(rt: HostRuntime) {
-    assert_eq!(rt; first_where_short(rt.alloc(), "three writes back"), Ok(None));
+    expect_none(&rt, one_where_short(rt.alloc(), "three writes back"));
 }
 
 #[test]
 fn ring_full_where_memory_may_run_out(rt: HostRuntime) {
-    assert_eq!(rt; first_where_short(rt.alloc(), "a ring that is full"), Ok(None));
+    expect_none(&rt, one_where_short(rt.alloc(), "a ring that is full"));
 }
 
 #[test]
 fn grows_behind_where_memory_may_run_out(rt: HostRuntime) {
-    assert_eq!(rt; first_where_short(rt.alloc(), "a tree that grows behind the scan"), Ok(None));
-}
-
-/// Wherever a push or a read is refused the build is spoiled and nothing is lost.
-#[test]
-fn each_fault_of_a_spool_spoils_the_build(rt: HostRuntime) {
-    assert_eq!(rt; first_otherwise(rt.alloc(), Task::Faults, ""), Ok(None));
-}
-
-/// Wherever a story is stopped, an abandon is refused exactly where no build runs, and all spools and pages come back.
-#[test]
-fn a_build_can_be_abandoned_anywhere(rt: HostRuntime) {
-    assert_eq!(rt; first_otherwise(rt.alloc(), Task::Stops, ""), Ok(None));
+    expect_none(
+        &rt,
+        one_where_short(rt.alloc(), "a tree that grows behind the scan"),
+    );
 }

@@ -11,11 +11,11 @@ use crate::telling::{Mode, told_otherwise};
 use crate::turns::{Turn, turns_of};
 use crate::writing::written;
 use builder_core::{Parts, Table};
-use faulty_spool::FaultySpool;
 use keybytes::Fault;
 use replay::{replay, table_parts};
 use run_spool::PlainSpool;
 use script::{Script, Start};
+use spool_kinds::FaultySpool;
 use std::alloc::Global;
 use std::marker::Brand;
 
@@ -136,11 +136,7 @@ fn tell(alloc: Global, prepared: &Prepared<'_>, mode: Mode) -> Result<Other, Fau
 
 /// The first place of a spool whose fault is met otherwise, up to one behind the last that is reached. Each pair is pushed once and read once, so that
 /// there are as many places of either kind as the spool gets pairs.
-fn other_fault(
-    alloc: Global,
-    prepared: &Prepared<'_>,
-    last: Place,
-) -> Result<Other, Fault> {
+fn other_fault(alloc: Global, prepared: &Prepared<'_>, last: Place) -> Result<Other, Fault> {
     for before in 0..=last.before {
         let mode = Mode::Faulted(Place { before, ..last }, before < last.before);
         if let Some(number) = told(alloc, prepared, mode, &mut 0)? {

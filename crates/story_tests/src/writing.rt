@@ -44,6 +44,15 @@ fn write_record(text: &mut String, record: &str, turn: usize) -> Result<(), Faul
     Ok(())
 }
 
+/// The text as it is in that round.
+pub fn round_of(alloc: Global, records: &str, round: usize) -> Result<String, Fault> {
+    let mut text = String::new(alloc);
+    for record in records.split_whitespace() {
+        write_record(&mut text, record, round)?;
+    }
+    Ok(text)
+}
+
 fn write_all(text: &mut String, records: &str) -> Result<(), Fault> {
     for record in records.split_whitespace() {
         let (count, one) = counted(record);

@@ -2,10 +2,9 @@
 
 use crate::story::{PLAIN, Story};
 
-pub static STORIES: [Story; 1] = [
-    Story {
-        name: "writes beside ready indexes",
-        script: "table,2,int
+pub static STORIES: [Story; 1] = [Story {
+    name: "writes beside ready indexes",
+    script: "table,2,int
 begin,1
 insert,1,5
 commit,1
@@ -67,7 +66,7 @@ undo,8
 switch
 undo,8
 ",
-        answers: "1,ok
+    answers: "1,ok
 2,ok,1
 3,ok,1,0.0
 4,ok,2
@@ -138,7 +137,6 @@ undo,8
 60,pages,0
 61,ok,28,0
 ",
-        is_short: true,
-        ..PLAIN
-    },
-];
+    is_short: true,
+    ..PLAIN
+}];

@@ -58,10 +58,8 @@ begin,5
 22,pair,30,1.0
 23,ok,5
 ",
-        is_short: true,
         ..PLAIN
     },
-
     Story {
         name: "shared for a while",
         script: "table,4,int,int
@@ -115,10 +113,8 @@ pairs,0
 23,ok,1
 23,pair,7,0.0
 ",
-        is_short: true,
         ..PLAIN
     },
-
     Story {
         name: "many entries left",
         script: "table,255,int,int
@@ -166,10 +162,8 @@ begin,3
 530,pair,512,0.0
 531,ok,3
 ",
-        is_short: true,
         ..PLAIN
     },
-
     Story {
         name: "undone after the switch",
         script: "table,4,int,int
@@ -208,10 +202,8 @@ begin,3
 14,pair,1,0.0
 15,ok,3
 ",
-        is_short: true,
         ..PLAIN
     },
-
     Story {
         name: "two indexes",
         script: "table,4,int,int
@@ -267,10 +259,8 @@ begin,4
 21,pair,2,0.1
 22,ok,4
 ",
-        is_short: true,
         ..PLAIN
     },
-
     Story {
         name: "three writes back",
         script: "table,4,int,int
@@ -327,10 +317,8 @@ pairs,0
 23,ok,1
 23,pair,1,0.0
 ",
-        is_short: true,
         ..PLAIN
     },
-
     Story {
         name: "a ring that is full",
         script: "table,1,int,int
@@ -399,10 +387,8 @@ pairs,0
 29,pair,1,3.0
 29,pair,1,4.0
 ",
-        is_short: true,
         ..PLAIN
     },
-
     Story {
         name: "a tree that grows behind the scan",
         script: "table,8,int,int
@@ -470,8 +456,6 @@ pairs,0
 8*85,pair,+56,7.+0
 7*85,pair,+64,8.+0
 ",
-        is_short: true,
         ..PLAIN
     },
-
 ];

@@ -1,0 +1,486 @@
+//! A table and what stands beside it, each called by itself: a switch looks whether it can take the other in, and workers that are lent take what
+//! they see in their rings.
+ghost use Rattle.std.specs.Prelude.{◌≡◌, List, true};
+ghost use Rattle.side_file.specs.Ends.{RingId};
+ghost use Rattle.page_workers.specs.WorkerValue.{SameWorker};
+ghost use Rattle.building.specs.BuildingValue.{BuildingValue};
+ghost use Rattle.building.specs.Lent.{AreBack, CanLend};
+
+use crate::list_spool::ListSpool;
+use crate::made::list_spool;
+use crate::rows::{On, PAIRED, Rows, heap, plan as plan_of, rest_of, row};
+use builder_core::{
+    Building, Dealing, Ends, Event, Live, Pair, Parts, Plan, Reply, Table, Worker, run_events,
+};
+use heap_table::PageImage;
+use keybytes::{Fault, Rid};
+use std::alloc::Global;
+use std::marker::Brand;
+
+const ON: On = On {
+    column: 0,
+    is_unique: false,
+};
+
+const THREE: Rows = Rows { count: 3, ..PAIRED };
+
+/// What is done with the table, or with what stands beside it.
+#[derive(Drop)]
+enum Half {
+    Start,
+    /// Of no index.
+    StartNone,
+    /// Over no range, though these have ends.
+    StartNowhere,
+    /// Of the next page.
+    Scan,
+    Switch,
+    Abandon,
+    /// What stands beside the table gives its work up.
+    GiveUp,
+    /// It gets another spool.
+    Exchange,
+    EndScan,
+    /// Without the table.
+    Load,
+    /// Of at most so many entries, behind another end of the scans.
+    Feed(usize),
+    Apply(usize),
+    /// Of at most so many that what stands beside the table has seen for itself.
+    ApplyAlone(usize),
+    /// How many pairs the ready index has, if they are the table's.
+    Follow,
+}
+
+/// What it is answered with; 0 where it tells no number.
+type Told = Result<usize, Fault>;
+
+/// On the two pages of three rows.
+static APART: [(Half, Told); 18] = [
+    (Half::Switch, Err(Fault::NoBuild)),
+    (Half::StartNowhere, Err(Fault::BadRanges)),
+    (Half::Start, Ok(2)),
+    (Half::Scan, Ok(0)),
+    (Half::Switch, Err(Fault::NotScanned(0))),
+    (Half::Scan, Ok(1)),
+    (Half::Switch, Err(Fault::NotLoaded(0))),
+    (Half::GiveUp, Ok(0)),
+    (Half::Switch, Err(Fault::NoBuild)),
+    (Half::Scan, Err(Fault::RangeDone)),
+    (Half::Abandon, Ok(0)),
+    (Half::Start, Err(Fault::BadCount)),
+    (Half::StartNone, Err(Fault::BadCount)),
+    (Half::Exchange, Ok(0)),
+    (Half::Start, Ok(2)),
+    (Half::Switch, Err(Fault::NotScanned(0))),
+    (Half::Exchange, Ok(0)),
+    (Half::Switch, Err(Fault::NoBuild)),
+];
+
+/// What the events of a build of the same table to its end are answered.
+const BUILT: [Told; 6] = [Ok(2), Ok(0), Ok(1), Ok(2), Ok(3), Ok(5)];
+
+/// Once the workers are back. The changes meanwhile are four entries, of which one is left to the switch.
+static BACK: [(Half, Told); 12] = [
+    (Half::Load, Err(Fault::NotLoaded(0))),
+    (Half::EndScan, Ok(0)),
+    (Half::Load, Ok(7)),
+    (Half::Load, Ok(0)),
+    (Half::ApplyAlone(9), Ok(0)),
+    (Half::Feed(2), Ok(2)),
+    (Half::ApplyAlone(1), Ok(1)),
+    (Half::ApplyAlone(9), Ok(1)),
+    (Half::Feed(1), Ok(1)),
+    (Half::Apply(9), Ok(1)),
+    (Half::Switch, Ok(13)),
+    (Half::Follow, Ok(7)),
+];
+
+/// What is done with the table while the workers are lent, or by one of them by itself.
+#[derive(Drop)]
+enum Lent {
+    /// The next page of that range, for that worker.
+    Scan(usize, usize),
+    /// The row at 0.0 becomes another.
+    Update(i64),
+    Look(usize),
+    Digest(usize),
+    Seal(usize),
+}
+
+/// The second worker gets a page of the first one's range too, once the row at 0.0 was copied and changed.
+static LENT: [(Lent, Told); 19] = [
+    (Lent::Look(0), Ok(0)),
+    (Lent::Scan(0, 0), Ok(0)),
+    (Lent::Digest(0), Ok(0)),
+    (Lent::Look(0), Ok(1)),
+    (Lent::Look(0), Ok(1)),
+    (Lent::Digest(0), Ok(1)),
+    (Lent::Digest(0), Ok(0)),
+    (Lent::Scan(1, 1), Ok(2)),
+    (Lent::Scan(1, 1), Ok(3)),
+    (Lent::Look(1), Ok(2)),
+    (Lent::Digest(1), Ok(1)),
+    (Lent::Update(8), Ok(10)),
+    (Lent::Update(9), Ok(12)),
+    (Lent::Scan(0, 1), Ok(1)),
+    (Lent::Seal(1), Ok(1)),
+    (Lent::Look(1), Ok(1)),
+    (Lent::Seal(1), Ok(1)),
+    (Lent::Seal(0), Ok(0)),
+    (Lent::Look(0), Ok(0)),
+];
+
+fn scanned<T: Table>(live: &mut Live<T>, range: usize, worker: usize, image: PageImage) -> Told {
+    match live.scan_step(range, worker, image) {
+        Ok(page) => Ok(page as usize),
+        Err((_, fault)) => Err(fault),
+    }
+}
+
+fn started<T: Table>(
+    live: &mut Live<T>,
+    building: &mut Building<ListSpool<'_>, T>,
+    plan: &Plan,
+) -> Told {
+    Ok(live.start(plan, building)? as usize)
+}
+
+fn nowhere(alloc: Global) -> Result<Plan, Fault> {
+    let plan = plan_of(alloc, &[ON], 1, 1, 1)?;
+    Ok(Plan {
+        dealing: Dealing::Ends(Vec::new(alloc)),
+        ..plan
+    })
+}
+
+fn exchanged<T: Table>(alloc: Global, building: &mut Building<ListSpool<'_>, T>) -> Told {
+    let _others = building.exchange(vec![in alloc; list_spool(alloc)?]?);
+    Ok(0)
+}
+
+/// Puts the pairs of the index in order, where that can be done.
+fn loaded<T: Table>(alloc: Global, building: &mut Building<ListSpool<'_>, T>) -> Told {
+    let Some(work) = building.work() else {
+        return Err(Fault::NoBuild);
+    };
+    work.check()?;
+    if !work.is_loading() || work.specs().is_empty() {
+        return Err(Fault::NotLoaded(0));
+    }
+    building.load(alloc, 0)
+}
+
+/// Applies entries without the table, where that can be done.
+fn applied_alone<T: Table>(building: &mut Building<ListSpool<'_>, T>, most: usize) -> Told {
+    let seen = building.look_for_entries(0);
+    let Some(work) = building.work() else {
+        return Err(Fault::NoBuild);
+    };
+    work.check()?;
+    if work.indexes().is_empty() || !work.is_loaded(0) {
+        return Err(Fault::NotLoaded(0));
+    }
+    building.apply(0, most.min(seen))
+}
+
+fn fed<T: Table>(
+    live: &mut Live<T>,
+    building: &mut Building<ListSpool<'_>, T>,
+    most: usize,
+) -> Told {
+    live.end_scan(building)?;
+    live.feed_beside(0, most, building)
+}
+
+fn applied<T: Table>(
+    live: &mut Live<T>,
+    building: &mut Building<ListSpool<'_>, T>,
+    most: usize,
+) -> Told {
+    live.end_scan(building)?;
+    live.check_apply(0, building)?;
+    live.apply(0, most, building)
+}
+
+fn has_pairs<T: Table>(live: &Live<T>, pairs: &[Pair]) -> bool {
+    match live.ready().get(0) {
+        Some(index) => index.tree().iter().eq(pairs),
+        None => false,
+    }
+}
+
+fn followed<T: Table>(alloc: Global, live: &mut Live<T>) -> Told {
+    let pairs = rest_of(alloc, live, ON)?;
+    if has_pairs(live, &pairs) {
+        Ok(pairs.len())
+    } else {
+        Err(Fault::BadCount)
+    }
+}
+
+fn does<T: Table>(
+    alloc: Global,
+    live: &mut Live<T>,
+    building: &mut Building<ListSpool<'_>, T>,
+    plan: &Plan,
+    half: &Half,
+) -> Told {
+    match half {
+        Half::Start => started(live, building, plan),
+        Half::StartNone => started(live, building, &plan_of(alloc, &[], 1, 1, 1)?),
+        Half::StartNowhere => started(live, building, &nowhere(alloc)?),
+        Half::Scan => scanned(live, 0, 0, PageImage::new(alloc)?),
+        Half::Switch => Ok(live.switch_in(building)?.number),
+        Half::Abandon => {
+            live.abandon()?;
+            Ok(0)
+        }
+        Half::GiveUp => {
+            building.give_up();
+            Ok(0)
+        }
+        Half::Exchange => exchanged(alloc, building),
+        Half::EndScan => {
+            live.end_scan(building)?;
+            Ok(0)
+        }
+        Half::Load => loaded(alloc, building),
+        Half::Feed(most) => fed(live, building, *most),
+        Half::Apply(most) => applied(live, building, *most),
+        Half::ApplyAlone(most) => applied_alone(building, *most),
+        Half::Follow => followed(alloc, live),
+    }
+}
+
+/// The number of the first case that is answered otherwise.
+fn first_other<T: Table>(
+    alloc: Global,
+    live: &mut Live<T>,
+    building: &mut Building<ListSpool<'_>, T>,
+    plan: &Plan,
+    cases: &[(Half, Told)],
+) -> Option<usize> {
+    for number in 0..cases.len() {
+        let (half, told) = &cases[number];
+        if does(alloc, live, building, plan, half) != *told {
+            return Some(number);
+        }
+    }
+    None
+}
+
+fn number_in(reply: &Reply) -> Told {
+    match reply {
+        Reply::Started { pages } => Ok(*pages as usize),
+        Reply::Scanned { page } => Ok(*page as usize),
+        Reply::Sealed { images: number }
+        | Reply::Loaded { pairs: number }
+        | Reply::Switched { number, .. } => Ok(*number),
+        Reply::Refused { fault } => Err(*fault),
+        _ => Err(Fault::BadCount),
+    }
+}
+
+/// Whether the replies are those to a build.
+fn are_built(replies: Result<Vec<Reply>, Fault>) -> Result<bool, Fault> {
+    let replies = replies?;
+    for number in 0..BUILT.len() {
+        if replies.get(number).map(number_in) != Some(BUILT[number]) {
+            return Ok(false);
+        }
+    }
+    Ok(replies.len() == BUILT.len())
+}
+
+/// The number of the first case that is answered otherwise, or of none where a build behind them is.
+fn apart_of<T: Table>(
+    alloc: Global,
+    live: Live<T>,
+    ends: Ends<T>,
+    spools: Vec<ListSpool<'_>>,
+    plan: &Plan,
+    events: &[Event],
+) -> Result<Option<usize>, Fault> {
+    let mut live = live;
+    let mut building = Building::new(ends, spools);
+    let other = first_other(alloc, &mut live, &mut building, plan, &APART);
+    let (ends, spools) = building.into_parts();
+    let (_, _, _, replies) = run_events(alloc, live, ends, spools, events);
+    if are_built(replies)? {
+        return Ok(other);
+    }
+    Ok(Some(APART.len()))
+}
+
+fn by_worker(worker: &mut Worker<ListSpool<'_>>, what: &Lent) -> Told
+    ensures { SameWorker worker.old worker.new }
+{
+    match what {
+        Lent::Look(_) => Ok(worker.look()),
+        Lent::Digest(_) => worker.digest(),
+        Lent::Seal(_) => worker.seal(),
+        _ => Err(Fault::BadCount),
+    }
+}
+
+fn by_one(workers: &mut Vec<Worker<ListSpool<'_>>>, number: usize, what: &Lent) -> Told
+    ensures { (rings : List RingId) (rest : BuildingValue) → AreBack rings rest workers.old.items → AreBack rings rest workers.new.items }
+{
+    if number >= workers.len() {
+        return Err(Fault::BadCount);
+    }
+    by_worker(&mut workers[number], what)
+}
+
+fn updated<T: Table>(alloc: Global, live: &mut Live<T>, number: i64) -> Told {
+    let txn = live.begin()?;
+    live.update(txn, Rid { page: 0, slot: 0 }, row(alloc, number, 0)?)?;
+    live.commit(txn)
+}
+
+fn does_while_lent<T: Table>(
+    alloc: Global,
+    live: &mut Live<T>,
+    workers: &mut Vec<Worker<ListSpool<'_>>>,
+    what: &Lent,
+) -> Told
+    ensures { (rings : List RingId) (rest : BuildingValue) → AreBack rings rest workers.old.items → AreBack rings rest workers.new.items }
+{
+    match what {
+        Lent::Scan(range, worker) => scanned(live, *range, *worker, PageImage::new(alloc)?),
+        Lent::Update(number) => updated(alloc, live, *number),
+        Lent::Look(number) | Lent::Digest(number) | Lent::Seal(number) => {
+            by_one(workers, *number, what)
+        }
+    }
+}
+
+/// The number of the first case that is answered otherwise while they are lent.
+fn other_while_lent<T: Table>(
+    alloc: Global,
+    live: &mut Live<T>,
+    workers: &mut Vec<Worker<ListSpool<'_>>>,
+) -> Option<usize>
+    ensures { (rings : List RingId) (rest : BuildingValue) → AreBack rings rest workers.old.items → AreBack rings rest workers.new.items }
+{
+    for number in 0..LENT.len() {
+        let (what, told) = &LENT[number];
+        if does_while_lent(alloc, live, workers, what) != *told {
+            return Some(number);
+        }
+    }
+    None
+}
+
+/// Whether a build goes on whose workers have their spools.
+fn can_lend<T: Table>(building: &Building<ListSpool<'_>, T>) -> bool
+    ensures { result ≡ true → CanLend building.now }
+{
+    match building.work() {
+        Some(work) => work.check().is_ok() && !work.is_loading(),
+        None => false,
+    }
+}
+
+/// Lends the workers, and takes them back: the first case that is answered otherwise meanwhile.
+fn lend_and_gather<'w, T: Table>(
+    alloc: Global,
+    live: &mut Live<T>,
+    building: Building<ListSpool<'w>, T>,
+) -> (Building<ListSpool<'w>, T>, Option<usize>)
+    requires { CanLend building }
+{
+    let (mut workers, rest) = building.lend();
+    let other = other_while_lent(alloc, live, &mut workers);
+    (rest.gather(workers), other)
+}
+
+/// The first case that is answered otherwise in a build by two workers, or behind those the first one once they are back.
+fn lent_of<T: Table>(
+    alloc: Global,
+    live: Live<T>,
+    ends: Ends<T>,
+    spools: Vec<ListSpool<'_>>,
+    plan: &Plan,
+) -> Option<usize> {
+    let mut live = live;
+    let mut building = Building::new(ends, spools);
+    let started = started(&mut live, &mut building, plan);
+    if !can_lend(&building) {
+        building.into_parts();
+        return started.ok();
+    }
+    let (mut building, other) = lend_and_gather(alloc, &mut live, building);
+    let later = first_other(alloc, &mut live, &mut building, plan, &BACK);
+    building.into_parts();
+    other.or(later.map(|number| number.saturating_add(100)))
+}
+
+fn other_of<T: Table>(
+    alloc: Global,
+    parts: Parts,
+    spools: Vec<ListSpool<'_>>,
+    plan: &Plan,
+    events: &[Event],
+) -> Result<Option<usize>, Fault>
+    requires pages { parts.pages ≡ T.pages }
+    requires sides { parts.sides ≡ T.sides }
+{
+    let (live, ends) = parts.open::<T>();
+    if events.is_empty() {
+        return Ok(lent_of(alloc, live, ends, spools, plan));
+    }
+    apart_of(alloc, live, ends, spools, plan, events)
+}
+
+fn other_beside(
+    alloc: Global,
+    rows: Rows,
+    spools: Vec<ListSpool<'_>>,
+    plan: &Plan,
+    events: &[Event],
+) -> Result<Option<usize>, Fault> {
+    match Parts::new(alloc, heap(alloc, rows)?) {
+        Ok(parts) => other_of::<Brand>(alloc, parts, spools, plan, events),
+        Err((_, fault)) => Err(fault),
+    }
+}
+
+fn apart(alloc: Global) -> Result<Option<usize>, Fault> {
+    let (range, worker) = (0, 0);
+    let events = vec![in alloc;
+        Event::Start {
+            plan: plan_of(alloc, &[ON], 1, 1, 1)?
+        },
+        Event::Scan { range, worker },
+        Event::Scan { range, worker },
+        Event::Seal { worker },
+        Event::Load { index: 0 },
+        Event::Switch,
+    ]?;
+    let plan = plan_of(alloc, &[ON], 1, 1, 1)?;
+    other_beside(
+        alloc,
+        THREE,
+        vec![in alloc; list_spool(alloc)?]?,
+        &plan,
+        &events,
+    )
+}
+
+fn lent(alloc: Global) -> Result<Option<usize>, Fault> {
+    let plan = plan_of(alloc, &[ON], 2, 2, 1)?;
+    let spools = vec![in alloc; list_spool(alloc)?, list_spool(alloc)?]?;
+    other_beside(alloc, PAIRED, spools, &plan, &[])
+}
+
+#[test]
+fn a_switch_looks_at_what_it_takes_in(rt: HostRuntime) {
+    assert_eq!(rt; apart(rt.alloc()), Ok(None));
+}
+
+#[test]
+fn lent_workers_look_for_themselves(rt: HostRuntime) {
+    assert_eq!(rt; lent(rt.alloc()), Ok(None));
+}
