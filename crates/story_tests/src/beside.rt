@@ -156,7 +156,7 @@ fn has_rest<T: Opened>(
 ) -> Result<bool, Fault> {
     let rest = rest_of(alloc, live, on)?;
     let has = match live.ready().get(number) {
-        Some(index) => index.tree().iter().eq(&rest),
+        Some(index) => index.tree().iter().eq(rest.as_slice()),
         None => true,
     };
     Ok(has && rest.len() == rows)

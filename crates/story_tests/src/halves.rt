@@ -469,7 +469,7 @@ fn apart(alloc: Global) -> Result<Option<usize>, Fault> {
     )
 }
 
-fn lent(alloc: Global) -> Result<Option<usize>, Fault> {
+fn while_lent(alloc: Global) -> Result<Option<usize>, Fault> {
     let plan = plan_of(alloc, &[ON], 2, 2, 1)?;
     let spools = vec![in alloc; list_spool(alloc)?, list_spool(alloc)?]?;
     other_beside(alloc, PAIRED, spools, &plan, &[])
@@ -482,5 +482,5 @@ fn a_switch_looks_at_what_it_takes_in(rt: HostRuntime) {
 
 #[test]
 fn lent_workers_look_for_themselves(rt: HostRuntime) {
-    assert_eq!(rt; lent(rt.alloc()), Ok(None));
+    assert_eq!(rt; while_lent(rt.alloc()), Ok(None));
 }

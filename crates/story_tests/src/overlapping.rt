@@ -15,12 +15,12 @@ use std::sync::Wait;
 use std::thread;
 use std::thread::{Threads, join};
 
-/// Two ranges of 17 pages, so that each worker's first run is full before its range ends. Each is held at its first page, until the other is there too.
+/// Two ranges of 28 pages, so that each worker's first run is full before its range ends. Each is held at its first page, until the other is there too.
 const WIDE: Build = Build {
     rows: Rows {
-        slots: 255,
-        count: 8670,
-        distinct: 8670,
+        slots: 150,
+        count: 8400,
+        distinct: 8400,
         ..PAIRED
     },
     workers: 2,
@@ -48,7 +48,7 @@ commit,A
 fn is_scanning<T: Opened, R: Wait>(rt: &R, table: &Table<T>) -> bool {
     let progress = table.progress(rt);
     progress.phase == Phase::Scanning
-        && progress.pages == 34
+        && progress.pages == 56
         && progress.scanned > 0
         && progress.entries > 0
         && progress.loaded == 0
@@ -163,5 +163,5 @@ fn outcome<R: Threads + Wait + Sync>(
 /// has inserted a row: four in all.
 #[test]
 fn gate_overlap(rt: HostRuntime) {
-    assert_eq!(rt; outcome(&rt, rt.alloc()), Ok(((1, 8674), (17, 17))));
+    assert_eq!(rt; outcome(&rt, rt.alloc()), Ok(((1, 8404), (28, 28))));
 }

@@ -23,8 +23,8 @@ fn is_row(number: i64, commits: usize) -> bool {
     match number {
         0 => count == 0,
         1..=6 => true,
-        100..=199 => number - 100 < count,
-        200..=299 => number - 199 == count,
+        100..=199 => number.saturating_sub(100) < count,
+        200..=299 => number.saturating_sub(199) == count,
         _ => false,
     }
 }

@@ -256,7 +256,7 @@ impl<S: Made, T: Table> Stand<S, T> {
     fn ready_pairs(&mut self, number: usize) -> Result<Vec<Pair>, Fault> {
         let spec = self.core.ready(number)?.spec().clone()?;
         let pairs = self.rest_of(&spec)?;
-        if self.core.ready(number)?.tree().iter().eq(&pairs) {
+        if self.core.ready(number)?.tree().iter().eq(pairs.as_slice()) {
             Ok(pairs)
         } else {
             Err(Fault::BadCount)

@@ -151,11 +151,14 @@ fn faults(alloc: Global, prepared: &Prepared<'_>) -> Result<Other, Fault> {
     let pairs = prepared.story.pairs;
     let indexes = start_of(prepared.turns).map_or(1, |start| start.specs.len());
     for number in 0..pairs.len().saturating_mul(2) {
+        let Some(before) = pairs.get(number / 2) else {
+            return Ok(None);
+        };
         let last = Place {
             spool: number / 2,
             indexes,
             is_push: number % 2 == 0,
-            before: pairs[number / 2],
+            before: *before,
         };
         let other = other_fault(alloc, prepared, last)?;
         if other.is_some() {

@@ -76,8 +76,10 @@ impl Build {
         faults: &[Coming],
     ) -> Result<Vec<FaultySpool<PlainSpool>>, Fault> {
         let mut spools = <FaultySpool<PlainSpool> as Made>::made(alloc, self.stock(), None)?;
-        for number in 0..spools.len().min(faults.len()) {
-            spools[number].coming = faults[number];
+        for number in 0..faults.len() {
+            if number < spools.len() {
+                spools[number].coming = faults[number];
+            }
         }
         Ok(spools)
     }
@@ -93,10 +95,10 @@ fn pairs_in<T: Opened>(
 ) -> Result<(usize, usize), Fault> {
     let mut ready: usize = 0;
     let mut count: usize = 0;
-    for number in 0..verdicts.len().min(indexes.len()) {
-        if let Outcome::Shared { .. } = &verdicts[number] {
+    for number in 0..indexes.len() {
+        let Some(Outcome::Ready(_)) = verdicts.get(number) else {
             continue;
-        }
+        };
         let rest = rest_of(alloc, live, indexes[number])?;
         if pairs.get(ready) != Some(&rest) {
             return Err(Fault::BadColumn);
