@@ -6,7 +6,7 @@ ghost use Rattle.page_workers.specs.WorkerValue.{SameWorker};
 ghost use Rattle.building.specs.BuildingValue.{BuildingValue};
 ghost use Rattle.building.specs.Lent.{AreBack, CanLend};
 
-use crate::list_spool::ListSpool;
+use crate::list_spool::{Free, ListSpool};
 use crate::made::list_spool;
 use crate::rows::{On, PAIRED, Rows, heap, plan as plan_of, rest_of, row};
 use builder_core::{
@@ -140,7 +140,7 @@ fn scanned<T: Table>(live: &mut Live<T>, range: usize, worker: usize, image: Pag
 
 fn started<T: Table>(
     live: &mut Live<T>,
-    building: &mut Building<ListSpool<'_>, T>,
+    building: &mut Building<ListSpool<Free>, T>,
     plan: &Plan,
 ) -> Told {
     Ok(live.start(plan, building)? as usize)
@@ -154,13 +154,13 @@ fn nowhere(alloc: Global) -> Result<Plan, Fault> {
     })
 }
 
-fn exchanged<T: Table>(alloc: Global, building: &mut Building<ListSpool<'_>, T>) -> Told {
+fn exchanged<T: Table>(alloc: Global, building: &mut Building<ListSpool<Free>, T>) -> Told {
     let _others = building.exchange(vec![in alloc; list_spool(alloc)?]?);
     Ok(0)
 }
 
 /// Puts the pairs of the index in order, where that can be done.
-fn loaded<T: Table>(alloc: Global, building: &mut Building<ListSpool<'_>, T>) -> Told {
+fn loaded<T: Table>(alloc: Global, building: &mut Building<ListSpool<Free>, T>) -> Told {
     let Some(work) = building.work() else {
         return Err(Fault::NoBuild);
     };
@@ -172,7 +172,7 @@ fn loaded<T: Table>(alloc: Global, building: &mut Building<ListSpool<'_>, T>) ->
 }
 
 /// Applies entries without the table, where that can be done.
-fn applied_alone<T: Table>(building: &mut Building<ListSpool<'_>, T>, most: usize) -> Told {
+fn applied_alone<T: Table>(building: &mut Building<ListSpool<Free>, T>, most: usize) -> Told {
     let seen = building.look_for_entries(0);
     let Some(work) = building.work() else {
         return Err(Fault::NoBuild);
@@ -186,7 +186,7 @@ fn applied_alone<T: Table>(building: &mut Building<ListSpool<'_>, T>, most: usiz
 
 fn fed<T: Table>(
     live: &mut Live<T>,
-    building: &mut Building<ListSpool<'_>, T>,
+    building: &mut Building<ListSpool<Free>, T>,
     most: usize,
 ) -> Told {
     live.end_scan(building)?;
@@ -195,7 +195,7 @@ fn fed<T: Table>(
 
 fn applied<T: Table>(
     live: &mut Live<T>,
-    building: &mut Building<ListSpool<'_>, T>,
+    building: &mut Building<ListSpool<Free>, T>,
     most: usize,
 ) -> Told {
     live.end_scan(building)?;
@@ -222,7 +222,7 @@ fn followed<T: Table>(alloc: Global, live: &mut Live<T>) -> Told {
 fn does<T: Table>(
     alloc: Global,
     live: &mut Live<T>,
-    building: &mut Building<ListSpool<'_>, T>,
+    building: &mut Building<ListSpool<Free>, T>,
     plan: &Plan,
     half: &Half,
 ) -> Told {
@@ -257,7 +257,7 @@ fn does<T: Table>(
 fn first_other<T: Table>(
     alloc: Global,
     live: &mut Live<T>,
-    building: &mut Building<ListSpool<'_>, T>,
+    building: &mut Building<ListSpool<Free>, T>,
     plan: &Plan,
     cases: &[(Half, Told)],
 ) -> Option<usize> {
@@ -298,7 +298,7 @@ fn apart_of<T: Table>(
     alloc: Global,
     live: Live<T>,
     ends: Ends<T>,
-    spools: Vec<ListSpool<'_>>,
+    spools: Vec<ListSpool<Free>>,
     plan: &Plan,
     events: &[Event],
 ) -> Result<Option<usize>, Fault> {
@@ -313,7 +313,7 @@ fn apart_of<T: Table>(
     Ok(Some(APART.len()))
 }
 
-fn by_worker(worker: &mut Worker<ListSpool<'_>>, what: &Lent) -> Told
+fn by_worker(worker: &mut Worker<ListSpool<Free>>, what: &Lent) -> Told
     ensures { SameWorker worker.old worker.new }
 {
     match what {
@@ -324,7 +324,7 @@ fn by_worker(worker: &mut Worker<ListSpool<'_>>, what: &Lent) -> Told
     }
 }
 
-fn by_one(workers: &mut Vec<Worker<ListSpool<'_>>>, number: usize, what: &Lent) -> Told
+fn by_one(workers: &mut Vec<Worker<ListSpool<Free>>>, number: usize, what: &Lent) -> Told
     ensures { (rings : List RingId) (rest : BuildingValue) → AreBack rings rest workers.old.items → AreBack rings rest workers.new.items }
 {
     if number >= workers.len() {
@@ -342,7 +342,7 @@ fn updated<T: Table>(alloc: Global, live: &mut Live<T>, number: i64) -> Told {
 fn does_while_lent<T: Table>(
     alloc: Global,
     live: &mut Live<T>,
-    workers: &mut Vec<Worker<ListSpool<'_>>>,
+    workers: &mut Vec<Worker<ListSpool<Free>>>,
     what: &Lent,
 ) -> Told
     ensures { (rings : List RingId) (rest : BuildingValue) → AreBack rings rest workers.old.items → AreBack rings rest workers.new.items }
@@ -360,7 +360,7 @@ fn does_while_lent<T: Table>(
 fn other_while_lent<T: Table>(
     alloc: Global,
     live: &mut Live<T>,
-    workers: &mut Vec<Worker<ListSpool<'_>>>,
+    workers: &mut Vec<Worker<ListSpool<Free>>>,
 ) -> Option<usize>
     ensures { (rings : List RingId) (rest : BuildingValue) → AreBack rings rest workers.old.items → AreBack rings rest workers.new.items }
 {
@@ -374,7 +374,7 @@ fn other_while_lent<T: Table>(
 }
 
 /// Whether a build goes on whose workers have their spools.
-fn can_lend<T: Table>(building: &Building<ListSpool<'_>, T>) -> bool
+fn can_lend<T: Table>(building: &Building<ListSpool<Free>, T>) -> bool
     ensures { result ≡ true → CanLend building.now }
 {
     match building.work() {
@@ -384,11 +384,11 @@ fn can_lend<T: Table>(building: &Building<ListSpool<'_>, T>) -> bool
 }
 
 /// Lends the workers, and takes them back: the first case that is answered otherwise meanwhile.
-fn lend_and_gather<'w, T: Table>(
+fn lend_and_gather<T: Table>(
     alloc: Global,
     live: &mut Live<T>,
-    building: Building<ListSpool<'w>, T>,
-) -> (Building<ListSpool<'w>, T>, Option<usize>)
+    building: Building<ListSpool<Free>, T>,
+) -> (Building<ListSpool<Free>, T>, Option<usize>)
     requires { CanLend building }
 {
     let (mut workers, rest) = building.lend();
@@ -401,7 +401,7 @@ fn lent_of<T: Table>(
     alloc: Global,
     live: Live<T>,
     ends: Ends<T>,
-    spools: Vec<ListSpool<'_>>,
+    spools: Vec<ListSpool<Free>>,
     plan: &Plan,
 ) -> Option<usize> {
     let mut live = live;
@@ -420,7 +420,7 @@ fn lent_of<T: Table>(
 fn other_of<T: Table>(
     alloc: Global,
     parts: Parts,
-    spools: Vec<ListSpool<'_>>,
+    spools: Vec<ListSpool<Free>>,
     plan: &Plan,
     events: &[Event],
 ) -> Result<Option<usize>, Fault>
@@ -437,7 +437,7 @@ fn other_of<T: Table>(
 fn other_beside(
     alloc: Global,
     rows: Rows,
-    spools: Vec<ListSpool<'_>>,
+    spools: Vec<ListSpool<Free>>,
     plan: &Plan,
     events: &[Event],
 ) -> Result<Option<usize>, Fault> {

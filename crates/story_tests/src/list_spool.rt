@@ -3,7 +3,6 @@ ghost use Rattle.std.specs.Prelude.{◌≡◌, [], All, length, IfOk, IfErr, vec
 ghost use Rattle.story_tests.specs.ListSpools.{IsSpare, new_list};
 
 use crate::list_run::ListRun;
-use crate::watch::Watch;
 use keybytes::{Fault, Key, Pair, Rid};
 use run_spool::Spool;
 use spool_ledger::Account;
@@ -11,20 +10,32 @@ use std::alloc::Global;
 use std::marker::Model;
 use std::mem::replace;
 
-/// Runs of pairs in lists: so many runs, each with at most so many pairs. It takes its memory when it is made; runs that were ended
-/// make no room for others. There is no account behind it. Its first push, which falls in a digest, may be held up.
+/// Where pushes are held up.
+pub trait Hold: Drop {
+    fn hold(&mut self);
+}
+
+/// Nowhere.
 #[derive(Drop)]
-pub struct ListSpool<'w> {
+pub struct Free;
+
+impl Hold for Free {
+    fn hold(&mut self) {}
+}
+
+/// Runs of pairs in lists: so many runs, each with at most so many pairs. It takes its memory when it is made; runs that were ended
+/// make no room for others. There is no account behind it. A push, which falls in a digest, may be held up.
+#[derive(Drop)]
+pub struct ListSpool<H: Hold> {
     runs: Vec<ListRun>,
     open_run: Vec<Pair>,
     /// Lists for further open runs.
     spare: Vec<Vec<Pair>>,
     limit: usize,
-    /// Where the first push is held up.
-    pub holding: Option<&'w Watch>,
+    hold: H,
 }
 
-impl<'w> Model for ListSpool<'w> {
+impl<H: Hold> Model for ListSpool<H> {
     ghost use Rattle.std.specs.Prelude.{length, vec_capacity};
     ghost use Rattle.story_tests.specs.ListSpools.{ListSpoolValue, IsListSpool};
 
@@ -54,9 +65,9 @@ fn lists(alloc: Global, count: usize, limit: usize) -> Result<Vec<Vec<Pair>>, Fa
     Ok(lists)
 }
 
-impl<'w> ListSpool<'w> {
+impl<H: Hold> ListSpool<H> {
     /// A spool with no run, for so many runs of so many pairs.
-    pub fn new(alloc: Global, runs: usize, limit: usize) -> Result<ListSpool<'w>, Fault>
+    pub fn new(alloc: Global, runs: usize, limit: usize, hold: H) -> Result<ListSpool<H>, Fault>
         ensures made { IfOk result (λ spool. spool ≡ new_list runs limit) }
         ensures memory { IfErr result (λ fault. fault ≡ Fault.Memory) }
     {
@@ -65,12 +76,12 @@ impl<'w> ListSpool<'w> {
             open_run: Vec::with_capacity(alloc, limit)?,
             spare: lists(alloc, runs, limit)?,
             limit,
-            holding: None,
+            hold,
         })
     }
 }
 
-impl Spool for ListSpool<'_> {
+impl<H: Hold> Spool for ListSpool<H> {
     ghost use Rattle.std.specs.Prelude.{◌≡◌, [], None};
     ghost use Rattle.story_tests.specs.ListSpools.{IsFullList};
 
@@ -91,9 +102,7 @@ impl Spool for ListSpool<'_> {
     }
 
     fn push(&mut self, pair: Pair) -> Result<(), (Pair, Fault)> {
-        if let Some(watch) = self.holding.take() {
-            watch.hold_for_insert();
-        }
+        self.hold.hold();
         if self.open_run.len() >= self.limit || self.spare.is_empty() {
             return Err((pair, Fault::NoPage));
         }

@@ -1,7 +1,7 @@
 //! Spools of several kinds, and whether they come back.
 ghost use Rattle.std.specs.Prelude.{◌≡◌, [], IfOk};
 
-use crate::list_spool::ListSpool;
+use crate::list_spool::{Free, ListSpool};
 use crate::place::{Place, coming_to};
 use crate::story::Stock;
 use keybytes::{Fault, Key, Pair, Rid};
@@ -83,16 +83,16 @@ impl Made for FaultySpool<PlainSpool> {
 }
 
 /// A spool for four runs of eight pairs each.
-pub fn list_spool<'w>(alloc: Global) -> Result<ListSpool<'w>, Fault> {
-    ListSpool::new(alloc, 4, 8)
+pub fn list_spool(alloc: Global) -> Result<ListSpool<Free>, Fault> {
+    ListSpool::new(alloc, 4, 8, Free)
 }
 
-impl<'w> Made for ListSpool<'w> {
+impl Made for ListSpool<Free> {
     fn made(
         alloc: Global,
         stock: Stock,
         _place: Option<Place>,
-    ) -> Result<Vec<ListSpool<'w>>, Fault> {
+    ) -> Result<Vec<ListSpool<Free>>, Fault> {
         let mut spools = Vec::new(alloc);
         for _ in 0..stock.count {
             spools.push(list_spool(alloc)?)?;

@@ -256,8 +256,13 @@ fn is_reported<T: Opened>(
     receipts: &mut Vec<Receipt<T>>,
     told: &str,
 ) -> Result<bool, Fault> {
-    receipts.push(report.receipt)?;
-    let Some(pairs) = report.pairs else {
+    let Report {
+        receipt,
+        verdicts: _,
+        pairs,
+    } = report;
+    receipts.push(receipt)?;
+    let Some(pairs) = pairs else {
         return Ok(false);
     };
     for own in &pairs {

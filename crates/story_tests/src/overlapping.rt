@@ -1,7 +1,7 @@
 //! A build of two workers beside a session: both workers run at once, and neither digests under the table's lock.
 ghost use Rattle.std.specs.Prelude.{◌≡◌};
 
-use crate::list_spool::ListSpool;
+use crate::list_spool::{Hold, ListSpool};
 use crate::programs::{IDLE, Program, does};
 use crate::rows::{PAIRED, Rows, shared_table};
 use crate::thread_builds::{Build, WHOLE, decided};
@@ -32,6 +32,20 @@ const WIDE: Build = Build {
     },
     ..WHOLE
 };
+
+/// The first push of a spool.
+#[derive(Drop)]
+struct First<'w> {
+    watch: Option<&'w Watch>,
+}
+
+impl Hold for First<'_> {
+    fn hold(&mut self) {
+        if let Some(watch) = self.watch.take() {
+            watch.hold_for_insert();
+        }
+    }
+}
 
 /// A row in a transaction of its own.
 const ROW: Program = Program {
@@ -98,7 +112,7 @@ fn built<T: Opened + Send + Sync, R: Threads + Wait + Sync>(
     table: &Table<T>,
     ends: Ends<T>,
     plan: &Plan,
-    spools: Vec<ListSpool<'_>>,
+    spools: Vec<ListSpool<First<'_>>>,
     watch: &Watch,
 ) -> Result<Report<T>, BuildFault> {
     let (_ends, _spools, told) = build(rt, alloc, table, ends, plan, spools, watch);
@@ -112,7 +126,7 @@ fn overlapped<T: Opened + Send + Sync, R: Threads + Wait + Sync>(
     alloc: Global,
     parts: TableParts,
     plan: &Plan,
-    spools: Vec<ListSpool<'_>>,
+    spools: Vec<ListSpool<First<'_>>>,
     watch: &Watch,
 ) -> Result<(usize, usize), Fault>
     requires word { parts.word ≡ T.table }
@@ -138,10 +152,8 @@ fn overlapped<T: Opened + Send + Sync, R: Threads + Wait + Sync>(
 }
 
 /// A spool for runs of 4,096 pairs, whose first push is held up.
-fn held(alloc: Global, watch: &Watch) -> Result<ListSpool<'_>, Fault> {
-    let mut spool = ListSpool::new(alloc, 3, 4096)?;
-    spool.holding = Some(watch);
-    Ok(spool)
+fn held(alloc: Global, watch: &Watch) -> Result<ListSpool<First<'_>>, Fault> {
+    ListSpool::new(alloc, 3, 4096, First { watch: Some(watch) })
 }
 
 fn outcome<R: Threads + Wait + Sync>(

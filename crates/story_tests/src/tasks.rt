@@ -1,7 +1,7 @@
 //! What is done with a story.
 ghost use Rattle.std.specs.Prelude.{◌≡◌};
 
-use crate::list_spool::ListSpool;
+use crate::list_spool::{Free, ListSpool};
 use crate::listed::told_as_list;
 use crate::made::Made;
 use crate::place::Place;
@@ -124,7 +124,7 @@ fn told(
 ) -> Result<Option<usize>, Fault> {
     match told.story.kind {
         Kind::Paged => told_over::<FaultySpool<PlainSpool>>(alloc, told, mode, came),
-        Kind::Lists => told_over::<ListSpool>(alloc, told, mode, came),
+        Kind::Lists => told_over::<ListSpool<Free>>(alloc, told, mode, came),
         Kind::Boxed => Ok(None),
     }
 }
