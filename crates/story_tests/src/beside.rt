@@ -181,7 +181,8 @@ fn follow<T: Opened>(
     Ok(true)
 }
 
-/// How many receipts there are, and how many records are missing, once so many indexes are ready, which follow the table.
+/// How many receipts there are, and how many records are missing, once so many indexes are ready, which follow the
+/// table.
 fn closed<T: Opened>(
     alloc: Global,
     table: Table<T>,

@@ -1,4 +1,5 @@
-//! Builds in threads, of tables to which nobody writes meanwhile: what each comes to, and what a fault in a spool makes of it.
+//! Builds in threads, of tables to which nobody writes meanwhile: what each comes to, and what a fault in a spool
+//! makes of it.
 
 use crate::rows::{On, PAIRED, Rows};
 use crate::thread_builds::{Build, FIRST, WHOLE, outcome};
@@ -14,7 +15,7 @@ const UNIQUE: On = On {
     is_unique: true,
 };
 
-const SECOND: On = On {
+pub const SECOND: On = On {
     column: 1,
     is_unique: true,
 };
@@ -162,8 +163,9 @@ fn builds_that_are_given_up_hand_their_spools_back(rt: HostRuntime) {
     assert_eq!(rt; other_build(&rt, rt.alloc(), false), None);
 }
 
-/// Two ranges of six pages, of two rows each. Either worker waits at its first page for the other, so that either gets one range.
-const TWO_INDEXES: Build = Build {
+/// Two ranges of six pages, of two rows each. Either worker waits at its first page for the other, so that either gets
+/// one range.
+pub const TWO_INDEXES: Build = Build {
     rows: Rows {
         count: 24,
         distinct: 24,
@@ -204,8 +206,8 @@ fn but(number: usize) -> [u64; 2] {
     if number == 0 { [0, 1] } else { [1, 0] }
 }
 
-/// What the threads have to tell where a spool fails, if it does: the worker whose push is refused closes no run, the other one does, and all pages are
-/// copied; where a read is refused, the other index is loaded.
+/// What the threads have to tell where a spool fails, if it does: the worker whose push is refused closes no run, the
+/// other one does, and all pages are copied; where a read is refused, the other index is loaded.
 fn wanted(indexes: usize, spool: usize, is_push: bool, fails: bool) -> Seen {
     let all = if indexes == 2 { [1, 1] } else { [1, 0] };
     let rest = if indexes == 2 { but(spool % 2) } else { [0, 0] };
@@ -253,7 +255,8 @@ fn fails_so<R: Threads + Wait + Sync>(
         == Ok((told, wanted(indexes, spool, is_push, fails)))
 }
 
-/// The first place where a build comes to something else: the spool, whether a push is refused, and how many go well before.
+/// The first place where a build comes to something else: the spool, whether a push is refused, and how many go well
+/// before.
 fn other_fault<R: Threads + Wait + Sync>(
     rt: &R,
     alloc: Global,
@@ -271,7 +274,8 @@ fn other_fault<R: Threads + Wait + Sync>(
     None
 }
 
-/// Wherever a push or a read of one worker's spool is refused, the build is given up for that, and the other worker does all its work.
+/// Wherever a push or a read of one worker's spool is refused, the build is given up for that, and the other worker
+/// does all its work.
 #[test]
 fn each_fault_of_a_worker_gives_the_build_up(rt: HostRuntime) {
     assert_eq!(rt; other_fault(&rt, rt.alloc(), &TWO_INDEXES), None);
@@ -281,126 +285,4 @@ fn each_fault_of_a_worker_gives_the_build_up(rt: HostRuntime) {
 #[test]
 fn each_fault_of_a_merging_thread_gives_the_build_up(rt: HostRuntime) {
     assert_eq!(rt; other_fault(&rt, rt.alloc(), &ONE_INDEX), None);
-}
-
-/// Ranges of a page each, and a worker that is held until the other has copied 28: with the 4,200 rows of these a run of 4,096 pairs is full.
-const LONG: Build = Build {
-    rows: Rows {
-        slots: 150,
-        count: 9600,
-        distinct: 9600,
-        ..PAIRED
-    },
-    indexes: &[FIRST, SECOND],
-    workers: 2,
-    ranges: 64,
-    tries: 1,
-    quota: 25,
-    ..WHOLE
-};
-
-/// The same with one worker held alone.
-const FIRST_HELD: Build = Build {
-    holds: Holds {
-        until: [28, 0],
-        yields: 500,
-        ..FREE
-    },
-    ..LONG
-};
-
-const SECOND_HELD: Build = Build {
-    holds: Holds {
-        until: [0, 28],
-        yields: 500,
-        ..FREE
-    },
-    ..LONG
-};
-
-const NO: Coming = Coming::Nothing;
-
-const FULL: Coming = Coming::FullBehind(0);
-
-/// A build with faults in its spools, and what its threads tell. It is given up, since no page is left.
-type Stopped = (Build, [Coming; 4], Seen);
-
-/// The worker whose first run finds no page is stopped with its last of 28 pages, and the other copies the 36 that are left.
-static ONE_STOPPED: [Stopped; 4] = [
-    (
-        SECOND_HELD,
-        [FULL, NO, NO, NO],
-        [u64::MAX, 28, 36, 0, 1, 0, 0, 0],
-    ),
-    (
-        SECOND_HELD,
-        [NO, FULL, NO, NO],
-        [u64::MAX, 28, 36, 0, 1, 0, 0, 0],
-    ),
-    (
-        FIRST_HELD,
-        [NO, NO, FULL, NO],
-        [u64::MAX, 36, 28, 1, 0, 0, 0, 0],
-    ),
-    (
-        FIRST_HELD,
-        [NO, NO, NO, FULL],
-        [u64::MAX, 36, 28, 1, 0, 0, 0, 0],
-    ),
-];
-
-/// Faults in spools of both workers: a build that no page is left for isn't loaded.
-static BOTH_STOPPED: [Stopped; 3] = [
-    (
-        TWO_INDEXES,
-        [Coming::FullBehind(3), NO, NO, FULL],
-        [4095, 6, 6, 0, 0, 0, 0, 0],
-    ),
-    (
-        TWO_INDEXES,
-        [
-            Coming::MemoryBehind(0),
-            Coming::MemoryBehind(0),
-            Coming::FullBehind(11),
-            NO,
-        ],
-        [4095, 6, 6, 1, 0, 0, 0, 0],
-    ),
-    (
-        TWO_INDEXES,
-        [
-            NO,
-            Coming::FullBehind(5),
-            Coming::MemoryBehind(2),
-            Coming::MemoryBehind(2),
-        ],
-        [4095, 6, 6, 0, 1, 0, 0, 0],
-    ),
-];
-
-/// The number of the first of these that comes to something else.
-fn other_stopped<R: Threads + Wait + Sync>(
-    rt: &R,
-    alloc: Global,
-    rows: &[Stopped],
-) -> Option<usize> {
-    for number in 0..rows.len() {
-        let (asked, faults, seen) = &rows[number];
-        if outcome(rt, alloc, asked, faults) != Ok((Err(Fault::NoPage), *seen)) {
-            return Some(number);
-        }
-    }
-    None
-}
-
-/// A worker whose spool is full while ranges are left goes no further, and the other copies them all.
-#[test]
-fn a_worker_that_is_stopped_leaves_its_ranges_to_the_other(rt: HostRuntime) {
-    assert_eq!(rt; other_stopped(&rt, rt.alloc(), &ONE_STOPPED), None);
-}
-
-/// Where both workers have faults to come the build is given up for the first that is met.
-#[test]
-fn faults_of_both_workers_give_the_build_up(rt: HostRuntime) {
-    assert_eq!(rt; other_stopped(&rt, rt.alloc(), &BOTH_STOPPED), None);
 }

@@ -5,7 +5,8 @@ use keybytes::{Cell, Fault, KeySpec, Row, Schema};
 use script::{Command, Label, Spec, Start};
 use std::alloc::Global;
 
-/// The transaction that a label is the number of; from the one on that was begun beside the story's each has a number more.
+/// The transaction that a label is the number of; from the one on that was begun beside the story's each has a number
+/// more.
 pub fn txn_of(label: &Label, beside: u64) -> u64 {
     let txn: u64 = label.as_str().parse().unwrap_or(0);
     if txn >= beside {

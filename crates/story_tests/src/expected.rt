@@ -71,7 +71,8 @@ fn prints(output: &mut Output<&mut Expected<'_>>, number: usize, answer: &Answer
     output.print(number, answer).is_ok() && output.flush().is_ok()
 }
 
-/// Whether the answer to the record of that number is printed as the first of these lines, which has that number, and those behind it that have it.
+/// Whether the answer to the record of that number is printed as the first of these lines, which has that number, and
+/// those behind it that have it.
 pub fn is_printed(number: usize, answer: &Answer, lines: &[u8]) -> bool {
     let mut expected = Expected {
         left: lines,

@@ -1,19 +1,15 @@
-//! A table and what stands beside it, each called by itself: a switch looks whether it can take the other in, and workers that are lent take what
-//! they see in their rings.
-ghost use Rattle.std.specs.Prelude.{◌≡◌, List, true};
-ghost use Rattle.side_file.specs.Ends.{RingId};
-ghost use Rattle.page_workers.specs.WorkerValue.{SameWorker};
-ghost use Rattle.building.specs.BuildingValue.{BuildingValue};
-ghost use Rattle.building.specs.Lent.{AreBack, CanLend};
+//! A table and what stands beside it, each called by itself: a switch looks whether it can take the other in.
+ghost use Rattle.std.specs.Prelude.{◌≡◌};
 
+use crate::lent::lent_of;
 use crate::list_spool::{Free, ListSpool};
 use crate::made::list_spool;
-use crate::rows::{On, PAIRED, Rows, heap, plan as plan_of, rest_of, row};
+use crate::rows::{On, PAIRED, Rows, heap, plan as plan_of, rest_of};
 use builder_core::{
-    Building, Dealing, Ends, Event, Live, Pair, Parts, Plan, Reply, Table, Worker, run_events,
+    Building, Dealing, Ends, Event, Live, Pair, Parts, Plan, Reply, Table, run_events,
 };
 use heap_table::PageImage;
-use keybytes::{Fault, Rid};
+use keybytes::Fault;
 use std::alloc::Global;
 use std::marker::Brand;
 
@@ -26,7 +22,7 @@ const THREE: Rows = Rows { count: 3, ..PAIRED };
 
 /// What is done with the table, or with what stands beside it.
 #[derive(Drop)]
-enum Half {
+pub enum Half {
     Start,
     /// Of no index.
     StartNone,
@@ -53,7 +49,7 @@ enum Half {
 }
 
 /// What it is answered with; 0 where it tells no number.
-type Told = Result<usize, Fault>;
+pub type Told = Result<usize, Fault>;
 
 /// On the two pages of three rows.
 static APART: [(Half, Told); 18] = [
@@ -81,7 +77,7 @@ static APART: [(Half, Told); 18] = [
 const BUILT: [Told; 6] = [Ok(2), Ok(0), Ok(1), Ok(2), Ok(3), Ok(5)];
 
 /// Once the workers are back. The changes meanwhile are four entries, of which one is left to the switch.
-static BACK: [(Half, Told); 12] = [
+pub static BACK: [(Half, Told); 12] = [
     (Half::Load, Err(Fault::NotLoaded(0))),
     (Half::EndScan, Ok(0)),
     (Half::Load, Ok(7)),
@@ -96,49 +92,19 @@ static BACK: [(Half, Told); 12] = [
     (Half::Follow, Ok(7)),
 ];
 
-/// What is done with the table while the workers are lent, or by one of them by itself.
-#[derive(Drop)]
-enum Lent {
-    /// The next page of that range, for that worker.
-    Scan(usize, usize),
-    /// The row at 0.0 becomes another.
-    Update(i64),
-    Look(usize),
-    Digest(usize),
-    Seal(usize),
-}
-
-/// The second worker gets a page of the first one's range too, once the row at 0.0 was copied and changed.
-static LENT: [(Lent, Told); 19] = [
-    (Lent::Look(0), Ok(0)),
-    (Lent::Scan(0, 0), Ok(0)),
-    (Lent::Digest(0), Ok(0)),
-    (Lent::Look(0), Ok(1)),
-    (Lent::Look(0), Ok(1)),
-    (Lent::Digest(0), Ok(1)),
-    (Lent::Digest(0), Ok(0)),
-    (Lent::Scan(1, 1), Ok(2)),
-    (Lent::Scan(1, 1), Ok(3)),
-    (Lent::Look(1), Ok(2)),
-    (Lent::Digest(1), Ok(1)),
-    (Lent::Update(8), Ok(10)),
-    (Lent::Update(9), Ok(12)),
-    (Lent::Scan(0, 1), Ok(1)),
-    (Lent::Seal(1), Ok(1)),
-    (Lent::Look(1), Ok(1)),
-    (Lent::Seal(1), Ok(1)),
-    (Lent::Seal(0), Ok(0)),
-    (Lent::Look(0), Ok(0)),
-];
-
-fn scanned<T: Table>(live: &mut Live<T>, range: usize, worker: usize, image: PageImage) -> Told {
+pub fn scanned<T: Table>(
+    live: &mut Live<T>,
+    range: usize,
+    worker: usize,
+    image: PageImage,
+) -> Told {
     match live.scan_step(range, worker, image) {
         Ok(page) => Ok(page as usize),
         Err((_, fault)) => Err(fault),
     }
 }
 
-fn started<T: Table>(
+pub fn started<T: Table>(
     live: &mut Live<T>,
     building: &mut Building<ListSpool<Free>, T>,
     plan: &Plan,
@@ -254,7 +220,7 @@ fn does<T: Table>(
 }
 
 /// The number of the first case that is answered otherwise.
-fn first_other<T: Table>(
+pub fn first_other<T: Table>(
     alloc: Global,
     live: &mut Live<T>,
     building: &mut Building<ListSpool<Free>, T>,
@@ -311,110 +277,6 @@ fn apart_of<T: Table>(
         return Ok(other);
     }
     Ok(Some(APART.len()))
-}
-
-fn by_worker(worker: &mut Worker<ListSpool<Free>>, what: &Lent) -> Told
-    ensures { SameWorker worker.old worker.new }
-{
-    match what {
-        Lent::Look(_) => Ok(worker.look()),
-        Lent::Digest(_) => worker.digest(),
-        Lent::Seal(_) => worker.seal(),
-        _ => Err(Fault::BadCount),
-    }
-}
-
-fn by_one(workers: &mut Vec<Worker<ListSpool<Free>>>, number: usize, what: &Lent) -> Told
-    ensures { (rings : List RingId) (rest : BuildingValue) → AreBack rings rest workers.old.items → AreBack rings rest workers.new.items }
-{
-    if number >= workers.len() {
-        return Err(Fault::BadCount);
-    }
-    by_worker(&mut workers[number], what)
-}
-
-fn updated<T: Table>(alloc: Global, live: &mut Live<T>, number: i64) -> Told {
-    let txn = live.begin()?;
-    live.update(txn, Rid { page: 0, slot: 0 }, row(alloc, number, 0)?)?;
-    live.commit(txn)
-}
-
-fn does_while_lent<T: Table>(
-    alloc: Global,
-    live: &mut Live<T>,
-    workers: &mut Vec<Worker<ListSpool<Free>>>,
-    what: &Lent,
-) -> Told
-    ensures { (rings : List RingId) (rest : BuildingValue) → AreBack rings rest workers.old.items → AreBack rings rest workers.new.items }
-{
-    match what {
-        Lent::Scan(range, worker) => scanned(live, *range, *worker, PageImage::new(alloc)?),
-        Lent::Update(number) => updated(alloc, live, *number),
-        Lent::Look(number) | Lent::Digest(number) | Lent::Seal(number) => {
-            by_one(workers, *number, what)
-        }
-    }
-}
-
-/// The number of the first case that is answered otherwise while they are lent.
-fn other_while_lent<T: Table>(
-    alloc: Global,
-    live: &mut Live<T>,
-    workers: &mut Vec<Worker<ListSpool<Free>>>,
-) -> Option<usize>
-    ensures { (rings : List RingId) (rest : BuildingValue) → AreBack rings rest workers.old.items → AreBack rings rest workers.new.items }
-{
-    for number in 0..LENT.len() {
-        let (what, told) = &LENT[number];
-        if does_while_lent(alloc, live, workers, what) != *told {
-            return Some(number);
-        }
-    }
-    None
-}
-
-/// Whether a build goes on whose workers have their spools.
-fn can_lend<T: Table>(building: &Building<ListSpool<Free>, T>) -> bool
-    ensures { result ≡ true → CanLend building.now }
-{
-    match building.work() {
-        Some(work) => work.check().is_ok() && !work.is_loading(),
-        None => false,
-    }
-}
-
-/// Lends the workers, and takes them back: the first case that is answered otherwise meanwhile.
-fn lend_and_gather<T: Table>(
-    alloc: Global,
-    live: &mut Live<T>,
-    building: Building<ListSpool<Free>, T>,
-) -> (Building<ListSpool<Free>, T>, Option<usize>)
-    requires { CanLend building }
-{
-    let (mut workers, rest) = building.lend();
-    let other = other_while_lent(alloc, live, &mut workers);
-    (rest.gather(workers), other)
-}
-
-/// The first case that is answered otherwise in a build by two workers, or behind those the first one once they are back.
-fn lent_of<T: Table>(
-    alloc: Global,
-    live: Live<T>,
-    ends: Ends<T>,
-    spools: Vec<ListSpool<Free>>,
-    plan: &Plan,
-) -> Option<usize> {
-    let mut live = live;
-    let mut building = Building::new(ends, spools);
-    let started = started(&mut live, &mut building, plan);
-    if !can_lend(&building) {
-        building.into_parts();
-        return started.ok();
-    }
-    let (mut building, other) = lend_and_gather(alloc, &mut live, building);
-    let later = first_other(alloc, &mut live, &mut building, plan, &BACK);
-    building.into_parts();
-    other.or(later.map(|number| number.saturating_add(100)))
 }
 
 fn other_of<T: Table>(

@@ -1,4 +1,5 @@
-//! Tests of the crates that index builds are made of, by their public calls alone: stories, each told in several ways, and builds and sessions in threads.
+//! Tests of the crates that index builds are made of, by their public calls alone: stories, each told in several ways,
+//! and builds and sessions in threads.
 #![tactic(auto)]
 
 #[cfg(test)]
@@ -15,6 +16,8 @@ mod events;
 mod expected;
 #[cfg(test)]
 mod halves;
+#[cfg(test)]
+mod lent;
 #[cfg(test)]
 mod list_run;
 #[cfg(test)]
@@ -47,6 +50,8 @@ mod session_steps;
 mod spoiled;
 #[cfg(test)]
 mod stand;
+#[cfg(test)]
+mod stopped;
 #[cfg(test)]
 mod stories;
 #[cfg(test)]

@@ -23,8 +23,9 @@ impl Hold for Free {
     fn hold(&mut self) {}
 }
 
-/// Runs of pairs in lists: so many runs, each with at most so many pairs. It takes its memory when it is made; runs that were ended
-/// make no room for others. There is no account behind it. A push, which falls in a digest, may be held up.
+/// Runs of pairs in lists: so many runs, each with at most so many pairs. It takes its memory when it is made; runs
+/// that were ended make no room for others. There is no account behind it. A push, which falls in a digest, may be
+/// held up.
 #[derive(Drop)]
 pub struct ListSpool<H: Hold> {
     runs: Vec<ListRun>,

@@ -7,8 +7,8 @@ use replay::{EntryLine, PairLine, SharedLine};
 use std::alloc::Global;
 use std::collections::vec_deque::Iter;
 
-/// The number, not below 0, whose key that is: a byte that tells a number from none, and its eight bytes from the greatest on, with the least
-/// number at 0.
+/// The number, not below 0, whose key that is: a byte that tells a number from none, and its eight bytes from the
+/// greatest on, with the least number at 0.
 pub fn number_of(key: &Key) -> Option<i64> {
     let (first, rest) = key.bytes().split_first()?;
     let mut sum: u64 = 0;

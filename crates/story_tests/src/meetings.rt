@@ -21,7 +21,8 @@ use std::marker::Brand;
 use std::sync::Wait;
 use std::thread::Threads;
 
-/// What a session does before a build and behind it, as scripts and answers. The labels are the numbers of the transactions.
+/// What a session does before a build and behind it, as scripts and answers. The labels are the numbers of the
+/// transactions.
 struct Meeting {
     rows: Rows,
     /// How many records a new session knows.
@@ -33,8 +34,8 @@ struct Meeting {
     behind: (&'static str, &'static str),
 }
 
-/// A session inserts a row, reads it, deletes it, finds it no more, and takes that back. A transaction without a write ends without a record, and one that
-/// holds a row keeps another from it.
+/// A session inserts a row, reads it, deletes it, finds it no more, and takes that back. A transaction without a write
+/// ends without a record, and one that holds a row keeps another from it.
 static READ_BACK: Meeting = Meeting {
     rows: Rows {
         slots: 255,

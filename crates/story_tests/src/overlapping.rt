@@ -15,7 +15,8 @@ use std::sync::Wait;
 use std::thread;
 use std::thread::{Threads, join};
 
-/// Two ranges of 28 pages, so that each worker's first run is full before its range ends. Each is held at its first page, until the other is there too.
+/// Two ranges of 28 pages, so that each worker's first run is full before its range ends. Each is held at its first
+/// page, until the other is there too.
 const WIDE: Build = Build {
     rows: Rows {
         slots: 150,
@@ -171,8 +172,8 @@ fn outcome<R: Threads + Wait + Sync>(
     }
 }
 
-/// Either worker scans one of the two ranges, seen by the pages that it copied. Each hold, at the first pages and in both workers' digests, ends only once the session
-/// has inserted a row: four in all.
+/// Either worker scans one of the two ranges, seen by the pages that it copied. Each hold, at the first pages and in
+/// both workers' digests, ends only once the session has inserted a row: four in all.
 #[test]
 fn gate_overlap(rt: HostRuntime) {
     assert_eq!(rt; outcome(&rt, rt.alloc()), Ok(((1, 8404), (28, 28))));

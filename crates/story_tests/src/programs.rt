@@ -13,7 +13,8 @@ use std::thread;
 /// How often a session looks for an index before it gives up.
 const LOOKS: usize = 1_000_000;
 
-/// What a session does: a script a round, one transaction after another, in which the numbers behind a `+` grow by one a round.
+/// What a session does: a script a round, one transaction after another, in which the numbers behind a `+` grow by one
+/// a round.
 #[derive(Drop)]
 pub struct Program {
     pub script: &'static str,
@@ -90,7 +91,8 @@ impl Course {
         is_next && was_open
     }
 
-    /// Whether a write may be refused so: another transaction holds the row, or has the key of the first index or may give it back.
+    /// Whether a write may be refused so: another transaction holds the row, or has the key of the first index or may
+    /// give it back.
     fn may_be_refused(&self, command: &Command, fault: Fault) -> bool {
         match (command, fault) {
             (Command::Update { .. }, Fault::RowHeld(other)) => other != self.txn,
@@ -117,7 +119,8 @@ impl Course {
     }
 }
 
-/// What a session is answered, once a build lets it begin. What is refused for want of memory is asked for once more where it may run out.
+/// What a session is answered, once a build lets it begin. What is refused for want of memory is asked for once more
+/// where it may run out.
 fn answer<T: Opened, R: Wait>(
     rt: &R,
     alloc: Global,

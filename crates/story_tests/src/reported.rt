@@ -16,8 +16,8 @@ pub fn committed<T: Opened>(receipts: &[Receipt<T>], switch: usize) -> usize {
     count
 }
 
-/// Whether that number is a row's of the rows 0 to 6 once so many transactions were committed: the one of round n put the row of 100 and n in, and made the first
-/// row that of 200 and n.
+/// Whether that number is a row's of the rows 0 to 6 once so many transactions were committed: the one of round n put
+/// the row of 100 and n in, and made the first row that of 200 and n.
 fn is_row(number: i64, commits: usize) -> bool {
     let count = commits.min(1000) as i64;
     match number {
@@ -29,7 +29,8 @@ fn is_row(number: i64, commits: usize) -> bool {
     }
 }
 
-/// Whether the pairs are those of the rows then, of a column whose numbers are by so much greater: each is one of theirs, they are in order, and as many.
+/// Whether the pairs are those of the rows then, of a column whose numbers are by so much greater: each is one of
+/// theirs, they are in order, and as many.
 fn are_then(pairs: &[Pair], more: i64, commits: usize) -> bool {
     let mut before: i64 = -1;
     for pair in pairs {
@@ -44,7 +45,8 @@ fn are_then(pairs: &[Pair], more: i64, commits: usize) -> bool {
     pairs.len() == commits.saturating_add(7)
 }
 
-/// Whether a report's pairs, of both columns, are those at its switch. Where no memory was left for them, there are none.
+/// Whether a report's pairs, of both columns, are those at its switch. Where no memory was left for them, there are
+/// none.
 pub fn are_reported(pairs: &Option<Vec<Vec<Pair>>>, is_short: bool, commits: usize) -> bool {
     match pairs {
         None => is_short,

@@ -13,8 +13,8 @@ pub struct On {
     pub is_unique: bool,
 }
 
-/// How many rows a page has at most, and how many a table has: in the first column the numbers from 0, of which so many are distinct, in the second
-/// these and `more`, in the same order or in the reverse one.
+/// How many rows a page has at most, and how many a table has: in the first column the numbers from 0, of which so
+/// many are distinct, in the second these and `more`, in the same order or in the reverse one.
 #[derive(Clone, Copy)]
 pub struct Rows {
     pub slots: u8,

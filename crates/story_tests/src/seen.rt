@@ -23,9 +23,9 @@ const NOWHERE: Rid = Rid {
 /// How a table and its build stand.
 #[derive(Drop)]
 pub struct Seen {
-    /// One word for all but the side-files: the records of the log, the pages, the open transactions with writes that stand; which transactions
-    /// are open, which of them are being undone, and the newest write of each that stands; the rows; what the ready indexes are on, with their
-    /// pairs; and whether a build runs.
+    /// One word for all but the side-files: the records of the log, the pages, the open transactions with writes that
+    /// stand; which transactions are open, which of them are being undone, and the newest write of each that stands;
+    /// the rows; what the ready indexes are on, with their pairs; and whether a build runs.
     word: u64,
     /// A word for each entry of the side-files of two indexes that wasn't fed yet.
     first: Vec<u64>,

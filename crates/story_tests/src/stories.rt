@@ -2,9 +2,11 @@
 
 mod builds;
 mod failing;
+mod failing_workers;
 mod fed;
 mod following;
 mod growing;
+mod growing_long;
 mod kinds;
 mod ranges;
 mod returned;
@@ -20,7 +22,7 @@ use keybytes::Fault;
 use std::alloc::Global;
 use std::process::Abort;
 
-const COUNT: usize = 12;
+const COUNT: usize = 14;
 
 fn stories(number: usize) -> &'static [Story] {
     match number {
@@ -35,7 +37,9 @@ fn stories(number: usize) -> &'static [Story] {
         8 => &uniques::STORIES,
         9 => &workers::STORIES,
         10 => &growing::STORIES,
-        _ => &failing::STORIES,
+        11 => &growing_long::STORIES,
+        12 => &failing::STORIES,
+        _ => &failing_workers::STORIES,
     }
 }
 
@@ -84,14 +88,17 @@ fn first_otherwise(alloc: Global, task: Task) -> Found {
     Ok(None)
 }
 
-/// The same of one of the stories of which each allocation is refused in turn. A story that wasn't begun for want of memory is told again.
+/// The same of the story with that name, where memory may run out. One that wasn't begun for want of memory is told
+/// again.
 fn one_where_short(alloc: Global, name: &str) -> Found {
-    for story in &growing::STORIES {
-        if story.name == name {
-            return match found_in(alloc, story, SHORT) {
-                Err(_) => found_in(alloc, story, SHORT),
-                found => found,
-            };
+    for number in 0..COUNT {
+        for story in stories(number) {
+            if story.name == name {
+                return match found_in(alloc, story, SHORT) {
+                    Err(_) => found_in(alloc, story, SHORT),
+                    found => found,
+                };
+            }
         }
     }
     Err(Fault::BadCount)

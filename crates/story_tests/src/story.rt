@@ -40,7 +40,8 @@ pub struct Story {
     pub is_replayed: bool,
     /// How many pairs each of its build's spools gets, where their faults are told as well.
     pub pairs: &'static [u32],
-    /// How many records there are behind the first, and at how many places among these, ends included, a build runs, where it is stopped as well.
+    /// How many records there are behind the first, and at how many places among these, ends included, a build runs,
+    /// where it is stopped as well.
     pub places: (usize, usize),
 }
 

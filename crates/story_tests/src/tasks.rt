@@ -41,7 +41,8 @@ pub struct Prepared<'t> {
     pub turns: &'t [Turn<'t>],
 }
 
-/// Where something is otherwise: the number of a record, or 0; and where a fault came, its spool, whether it refused a push, and how many went well before.
+/// Where something is otherwise: the number of a record, or 0; and where a fault came, its spool, whether it refused a
+/// push, and how many went well before.
 pub type Other = Option<[usize; 4]>;
 
 /// The build of a story, if it has one.
@@ -73,7 +74,8 @@ fn place_of(mode: Mode) -> Option<Place> {
     }
 }
 
-/// The number of the first record that is told otherwise on a table under its name; 0 where the story ends otherwise, or a spool doesn't come back.
+/// The number of the first record that is told otherwise on a table under its name; 0 where the story ends otherwise,
+/// or a spool doesn't come back.
 fn told_on<S: Made, T: Table>(
     alloc: Global,
     parts: Parts,
@@ -134,8 +136,8 @@ fn tell(alloc: Global, prepared: &Prepared<'_>, mode: Mode) -> Result<Other, Fau
     Ok(other.map(|number| [number, 0, 0, 0]))
 }
 
-/// The first place of a spool whose fault is met otherwise, up to one behind the last that is reached. Each pair is pushed once and read once, so that
-/// there are as many places of either kind as the spool gets pairs.
+/// The first place of a spool whose fault is met otherwise, up to one behind the last that is reached. Each pair is
+/// pushed once and read once, so that there are as many places of either kind as the spool gets pairs.
 fn other_fault(alloc: Global, prepared: &Prepared<'_>, last: Place) -> Result<Other, Fault> {
     for before in 0..=last.before {
         let mode = Mode::Faulted(Place { before, ..last }, before < last.before);
@@ -168,7 +170,8 @@ fn faults(alloc: Global, prepared: &Prepared<'_>) -> Result<Other, Fault> {
     Ok(None)
 }
 
-/// The first place where an abandon goes otherwise; or else how many there are, and at how many a build runs, where these are others.
+/// The first place where an abandon goes otherwise; or else how many there are, and at how many a build runs, where
+/// these are others.
 fn stops(alloc: Global, prepared: &Prepared<'_>) -> Result<Other, Fault> {
     let mut ran: u32 = 0;
     for count in 0..=prepared.turns.len() {

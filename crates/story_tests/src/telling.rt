@@ -21,7 +21,8 @@ pub enum Mode {
     Short,
     /// One of its spools fails at that place, if it comes so far.
     Faulted(Place, bool),
-    /// It is abandoned behind its last record, which has that number: what came before it is compared where the story is stopped earlier.
+    /// It is abandoned behind its last record, which has that number: what came before it is compared where the story
+    /// is stopped earlier.
     Stopped(usize),
 }
 
@@ -52,8 +53,8 @@ fn is_work(command: &Command) -> bool {
     )
 }
 
-/// Whether a record may be answered so. The fault comes once; from then on the build is spoiled. What comes before it and can't meet it is compared where it
-/// isn't reached.
+/// Whether a record may be answered so. The fault comes once; from then on the build is spoiled. What comes before it
+/// and can't meet it is compared where it isn't reached.
 fn is_answer(
     place: Place,
     is_reached: bool,
@@ -141,7 +142,8 @@ fn is_over<S: Made, T: Table>(stand: &mut Stand<S, T>, mode: Mode, came: &mut u3
     }
 }
 
-/// The number of the first record that is told otherwise; 0 where the story ends otherwise. Counts the faults that came, or the builds that were stopped.
+/// The number of the first record that is told otherwise; 0 where the story ends otherwise. Counts the faults that
+/// came, or the builds that were stopped.
 pub fn told_otherwise<S: Made, T: Table>(
     stand: &mut Stand<S, T>,
     alloc: Global,

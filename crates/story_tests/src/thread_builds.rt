@@ -53,7 +53,8 @@ pub const WHOLE: Build = Build {
     holds: FREE,
 };
 
-/// What a build came to: how many indexes are ready, and how many pairs these have in all, or the fault that it was given up for; and what its threads told.
+/// What a build came to: how many indexes are ready, and how many pairs these have in all, or the fault that it was
+/// given up for; and what its threads told.
 pub type Came = (Result<(usize, usize), Fault>, Seen);
 
 impl Build {
@@ -85,7 +86,8 @@ impl Build {
     }
 }
 
-/// The pairs of all indexes that are ready, if the report has just those of the table's rows; how many indexes these are, and how many pairs they have.
+/// The pairs of all indexes that are ready, if the report has just those of the table's rows; how many indexes these
+/// are, and how many pairs they have.
 fn pairs_in<T: Opened>(
     alloc: Global,
     live: &mut Live<T>,
@@ -197,7 +199,8 @@ fn answered<T: Opened + Send + Sync, R: Threads + Wait + Sync>(
     told_of_back(came_to(rt, alloc, table, told, asked), are_back, &watch)
 }
 
-/// What a build comes to with these faults to come, one for each spool: that of worker w and index i has the place w times the indexes, plus i.
+/// What a build comes to with these faults to come, one for each spool: that of worker w and index i has the place w
+/// times the indexes, plus i.
 pub fn outcome<R: Threads + Wait + Sync>(
     rt: &R,
     alloc: Global,

@@ -67,8 +67,8 @@ static FOUR: Together = Together {
     ..ALONE
 };
 
-/// Each transaction wants the key 7, and gives one of the three rows a key that no other row gets. Until the index is ready all are undone, and then every
-/// second one commits.
+/// Each transaction wants the key 7, and gives one of the three rows a key that no other row gets. Until the index is
+/// ready all are undone, and then every second one commits.
 const WANTS: Program = Program {
     script: "table,1,int,int
 begin,A
@@ -149,8 +149,8 @@ const UNIQUE_BUILD: Build = Build {
     ..WHOLE
 };
 
-/// Four sessions write to the same rows and want the same key, while a build makes this key unique and after it. The last transaction that wants it commits, so one
-/// of them has it in the end.
+/// Four sessions write to the same rows and want the same key, while a build makes this key unique and after it. The
+/// last transaction that wants it commits, so one of them has it in the end.
 static CONTENDED: Together = Together {
     programs: [&WANTS, &WANTS, &WANTS, &WANTS],
     build: Some(&UNIQUE_BUILD),
@@ -260,7 +260,8 @@ fn decides(rt: HostRuntime) {
     assert_eq!(rt; outcome(&rt, rt.alloc(), &SHORT, false), Ok(Some((50, 0))));
 }
 
-/// It is run by itself, with each of its allocations refused in turn: then the build is given up, and its record isn't there.
+/// It is run by itself, with each of its allocations refused in turn: then the build is given up, and its record isn't
+/// there.
 #[test]
 fn decides_where_memory_may_run_out(rt: HostRuntime) {
     let once = match outcome(&rt, rt.alloc(), &SHORT, false) {

@@ -7,9 +7,10 @@ use std::thread;
 /// How often a thread that is held looks before it gives up.
 const LOOKS: u32 = 1_000_000;
 
-/// What two workers and the loads of up to two indexes told: the pages that were copied, page n as the bit of that number, so that a page
-/// that is copied twice changes the bits above it; how many pages either worker copied; how often either closed its runs; how often the pairs of either
-/// index were in order; and how many turns tried the switch.
+/// What two workers and the loads of up to two indexes told: the pages that were copied, page n as the bit of that
+/// number, so that a page that is copied twice changes the bits above it; how many pages either worker copied; how
+/// often either closed its runs; how often the pairs of either index were in order; and how many turns tried the
+/// switch.
 pub type Seen = [u64; 8];
 
 /// Where these stand.
@@ -30,7 +31,8 @@ pub struct Holds {
     pub until: [u64; 2],
     /// How often others may run from there on, so that what the other does with its last page is done.
     pub yields: u32,
-    /// Whether who is held asks for an insert, and goes on only once the session has begun one since and has its answer.
+    /// Whether who is held asks for an insert, and goes on only once the session has begun one since and has its
+    /// answer.
     pub is_asking: bool,
 }
 

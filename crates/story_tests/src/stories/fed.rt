@@ -1,5 +1,5 @@
-//! Entries that are fed and applied while a build of three rows runs. Where memory may run out an apply or a switch that wants it loses no entry: the next one goes on behind
-//! those that were applied.
+//! Entries that are fed and applied while a build of three rows runs. Where memory may run out an apply or a switch
+//! that wants it loses no entry: the next one goes on behind those that were applied.
 
 use crate::story::{PLAIN, Story};
 

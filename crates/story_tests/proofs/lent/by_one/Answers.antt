@@ -2,7 +2,7 @@ use Rattle.std.proofs.Common.{List, arith}
 use Rattle.page_workers.specs.WorkerValue.{WorkerValue}
 use Rattle.page_workers.proofs.Places.{at_index}
 use Rattle.building.proofs.LentBack.{all_back}
-use Rattle.story_tests.proofs.halves.by_one.Goals as goal
+use Rattle.story_tests.proofs.lent.by_one.Goals as goal
 
 pub returns : goal.returns
 returns c = λ rings rest back.
