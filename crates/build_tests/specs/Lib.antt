@@ -1,3 +1,0 @@
-pub mod ListSpools
-pub mod Owing
-pub mod Stands

@@ -1,2 +1,0 @@
-pub mod OneRun
-pub mod Stands

@@ -1,0 +1,5 @@
+use Rattle.story_tests.proofs.tasks.told_beside.Given as goal
+
+-- the table is named by its own rings
+abbrev pub ghosts-told_on : goal.ghosts-told_on
+ghosts-told_on g a = record { pages = a.parts.pages; sides = a.parts.sides }

@@ -1,0 +1,67 @@
+//! Pairs and entries as they are printed.
+
+use builder_core::{Entry, Pair};
+use heap_log::Outcome;
+use keybytes::{Cell, Fault, Key};
+use replay::{EntryLine, PairLine, SharedLine};
+use std::alloc::Global;
+use std::collections::vec_deque::Iter;
+
+/// The number, not below 0, whose key that is: a byte that tells a number from none, and its eight bytes from the
+/// greatest on, with the least number at 0.
+pub fn number_of(key: &Key) -> Option<i64> {
+    let (first, rest) = key.bytes().split_first()?;
+    let mut sum: u64 = 0;
+    for byte in rest {
+        sum = sum.wrapping_mul(256).wrapping_add(*byte as u64);
+    }
+    let number = sum.wrapping_sub(1 << 63);
+    if *first != 1 || rest.len() != 8 || number >= 1 << 63 {
+        return None;
+    }
+    Some(number as i64)
+}
+
+fn cells_of(alloc: Global, key: &Key) -> Result<Vec<Cell>, Fault> {
+    let number = number_of(key).ok_or(Fault::BadColumn)?;
+    Ok(vec![in alloc; Cell::Int(number)]?)
+}
+
+pub fn pair_lines(alloc: Global, pairs: &[Pair]) -> Result<Vec<PairLine>, Fault> {
+    let mut lines = Vec::new(alloc);
+    for pair in pairs {
+        lines.push(PairLine {
+            cells: cells_of(alloc, &pair.key)?,
+            rid: pair.rid,
+        })?;
+    }
+    Ok(lines)
+}
+
+pub fn entry_lines(alloc: Global, entries: Iter<'_, Entry>) -> Result<Vec<EntryLine>, Fault> {
+    let mut lines = Vec::new(alloc);
+    for entry in entries {
+        lines.push(EntryLine {
+            op: entry.op,
+            cells: cells_of(alloc, &entry.key)?,
+            rid: entry.rid,
+        })?;
+    }
+    Ok(lines)
+}
+
+/// Those of the indexes that the verdicts refuse.
+pub fn shared_lines(alloc: Global, verdicts: &[Outcome]) -> Result<Vec<SharedLine>, Fault> {
+    let mut lines = Vec::new(alloc);
+    for index in 0..verdicts.len() {
+        if let Outcome::Shared { key, first, second } = &verdicts[index] {
+            lines.push(SharedLine {
+                index,
+                cells: cells_of(alloc, key)?,
+                first: *first,
+                second: *second,
+            })?;
+        }
+    }
+    Ok(lines)
+}

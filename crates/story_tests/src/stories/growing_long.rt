@@ -1,0 +1,203 @@
+//! Longer stories of which each allocation is refused in turn.
+
+use crate::story::{PLAIN, Story};
+
+pub static STORIES: [Story; 3] = [
+    Story {
+        name: "three writes back",
+        script: "table,4,int,int
+begin,1
+insert,1,1,0
+commit,1
+start,1,4,1,n:0
+scan,0,0
+seal,0
+load,0
+switch
+begin,2
+update,2,0.0,2,0
+update,2,0.0,3,0
+insert,2,9,0
+pairs,0
+undo,2
+insert,2,5,0
+pairs,0
+undo,2
+commit,2
+pairs,0
+undo,2
+commit,2
+pairs,0
+",
+        answers: "1,ok
+2,ok,1
+3,ok,1,0.0
+4,ok,2
+5,ok,1
+6,ok,0
+7,ok,1
+8,ok,1
+9,ok,3,ready:0
+9,pages,0
+10,ok,2
+11,ok,4,0.0
+12,ok,5,0.0
+13,ok,6,0.1
+14,ok,2
+14,pair,3,0.0
+14,pair,9,0.1
+15,ok,7,2
+16,refused,26,TxnEnding
+17,ok,1
+17,pair,3,0.0
+18,ok,8,1
+19,refused,26,TxnEnding
+20,ok,1
+20,pair,2,0.0
+21,ok,9,0
+22,refused,24,NoSuchTxn
+23,ok,1
+23,pair,1,0.0
+",
+        ..PLAIN
+    },
+    Story {
+        name: "a ring that is full",
+        script: "table,1,int,int
+begin,1
+insert,1,1,0
+commit,1
+begin,2
+insert,2,1,0
+commit,2
+begin,3
+insert,3,1,0
+commit,3
+begin,4
+insert,4,1,0
+commit,4
+begin,5
+insert,5,1,0
+commit,5
+start,1,4,5,n:0
+scan,0,0
+scan,0,0
+scan,0,0
+scan,0,0
+scan,0,0
+digest,0
+scan,0,0
+load,0
+seal,0
+load,0
+switch
+pairs,0
+",
+        answers: "1,ok
+2,ok,1
+3,ok,1,0.0
+4,ok,2
+5,ok,2
+6,ok,3,1.0
+7,ok,4
+8,ok,3
+9,ok,5,2.0
+10,ok,6
+11,ok,4
+12,ok,7,3.0
+13,ok,8
+14,ok,5
+15,ok,9,4.0
+16,ok,10
+17,ok,5
+18,ok,0
+19,ok,1
+20,ok,2
+21,ok,3
+22,refused,46,RingFull
+23,ok,1
+24,ok,4
+25,refused,54,NotSealed,0
+26,ok,4
+27,ok,5
+28,ok,11,ready:0
+28,pages,0
+29,ok,5
+29,pair,1,0.0
+29,pair,1,1.0
+29,pair,1,2.0
+29,pair,1,3.0
+29,pair,1,4.0
+",
+        ..PLAIN
+    },
+    Story {
+        name: "a tree that grows behind the scan",
+        script: "table,8,int,int
+begin,1
+insert,1,0,0
+commit,1
+start,1,4,1,u:0
+scan,0,0
+seal,0
+load,0
+begin,2
+70*insert,2,+1,0
+commit,2
+feed,0,35
+apply,0,64
+apply,0,64
+switch
+pairs,0
+",
+        answers: "1,ok
+2,ok,1
+3,ok,1,0.0
+4,ok,2
+5,ok,1
+6,ok,0
+7,ok,1
+8,ok,1
+9,ok,2
+10,ok,3,0.1
+11,ok,4,0.2
+12,ok,5,0.3
+13,ok,6,0.4
+14,ok,7,0.5
+15,ok,8,0.6
+16,ok,9,0.7
+8*+17,ok,+10,1.+0
+8*+25,ok,+18,2.+0
+8*+33,ok,+26,3.+0
+8*+41,ok,+34,4.+0
+8*+49,ok,+42,5.+0
+8*+57,ok,+50,6.+0
+8*+65,ok,+58,7.+0
+73,ok,66,8.0
+74,ok,67,8.1
+75,ok,68,8.2
+76,ok,69,8.3
+77,ok,70,8.4
+78,ok,71,8.5
+79,ok,72,8.6
+80,ok,73
+81,ok,35
+82,ok,35
+83,ok,0
+84,ok,74,ready:0
+84,pages,0
+85,ok,71
+85,pair,0,0.0
+7*85,pair,+1,0.+1
+8*85,pair,+8,1.+0
+8*85,pair,+16,2.+0
+8*85,pair,+24,3.+0
+8*85,pair,+32,4.+0
+8*85,pair,+40,5.+0
+8*85,pair,+48,6.+0
+8*85,pair,+56,7.+0
+7*85,pair,+64,8.+0
+",
+        ..PLAIN
+    },
+];

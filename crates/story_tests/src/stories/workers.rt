@@ -1,0 +1,242 @@
+//! Builds by several workers, over four pages: each takes what is put for it.
+
+use crate::story::{PLAIN, Story};
+
+pub static STORIES: [Story; 4] = [
+    Story {
+        name: "two workers",
+        script: "table,2,int
+begin,1
+insert,1,7
+insert,1,1
+insert,1,6
+insert,1,2
+insert,1,5
+insert,1,3
+insert,1,4
+commit,1
+start,2,4,even:2,n:0
+scan,0,2
+digest,2
+seal,2
+digest,1
+scan,0,0
+scan,1,1
+scan,1,1
+digest,1
+digest,0
+digest,0
+load,0
+scan,0,0
+load,0
+seal,0
+load,0
+digest,1
+load,0
+seal,1
+load,0
+switch
+",
+        answers: "1,ok
+2,ok,1
+3,ok,1,0.0
+4,ok,2,0.1
+5,ok,3,1.0
+6,ok,4,1.1
+7,ok,5,2.0
+8,ok,6,2.1
+9,ok,7,3.0
+10,ok,8
+11,ok,4
+12,refused,43,BadCount
+13,refused,43,BadCount
+14,refused,43,BadCount
+15,ok,0
+16,ok,0
+17,ok,2
+18,ok,3
+19,ok,1
+20,ok,1
+21,ok,0
+22,refused,47,NotScanned,0
+23,ok,1
+24,refused,54,NotSealed,0
+25,ok,1
+26,refused,54,NotSealed,1
+27,ok,1
+28,refused,54,NotSealed,1
+29,ok,0
+30,ok,7
+31,ok,9,ready:0
+31,pages,0
+",
+        ..PLAIN
+    },
+    Story {
+        name: "sixteen workers",
+        script: "table,2,int
+begin,1
+insert,1,7
+insert,1,1
+insert,1,6
+insert,1,2
+insert,1,5
+insert,1,3
+insert,1,4
+commit,1
+start,17,4,even:1,n:0
+start,0,4,even:1,n:0
+start,16,4,even:1,n:0
+scan,0,15
+scan,0,7
+scan,0,0
+scan,0,15
+seal,0
+seal,15
+load,0
+seal,7
+load,0
+load,0
+switch
+",
+        answers: "1,ok
+2,ok,1
+3,ok,1,0.0
+4,ok,2,0.1
+5,ok,3,1.0
+6,ok,4,1.1
+7,ok,5,2.0
+8,ok,6,2.1
+9,ok,7,3.0
+10,ok,8
+11,refused,43,BadCount
+12,refused,43,BadCount
+13,ok,4
+14,ok,0
+15,ok,1
+16,ok,2
+17,ok,3
+18,ok,1
+19,ok,2
+20,refused,54,NotSealed,7
+21,ok,1
+22,ok,7
+23,ok,0
+24,ok,9,ready:0
+24,pages,0
+",
+        ..PLAIN
+    },
+    Story {
+        name: "copies that an abandoned build leaves",
+        script: "table,2,int
+begin,1
+insert,1,7
+insert,1,1
+insert,1,6
+insert,1,2
+insert,1,5
+insert,1,3
+insert,1,4
+commit,1
+start,2,4,even:2,n:0
+scan,0,0
+scan,1,1
+scan,1,1
+abandon
+digest,0
+start,2,4,even:1,n:0
+digest,1
+scan,0,1
+scan,0,1
+scan,0,1
+scan,0,1
+seal,1
+load,0
+switch
+",
+        answers: "1,ok
+2,ok,1
+3,ok,1,0.0
+4,ok,2,0.1
+5,ok,3,1.0
+6,ok,4,1.1
+7,ok,5,2.0
+8,ok,6,2.1
+9,ok,7,3.0
+10,ok,8
+11,ok,4
+12,ok,0
+13,ok,2
+14,ok,3
+15,ok
+15,pages,0
+16,refused,41,NoBuild
+17,ok,4
+18,ok,0
+19,ok,0
+20,ok,1
+21,ok,2
+22,ok,3
+23,ok,4
+24,ok,7
+25,ok,9,ready:0
+25,pages,0
+",
+        ..PLAIN
+    },
+    Story {
+        name: "two workers while a transaction writes",
+        script: "table,2,int
+begin,1
+insert,1,7
+insert,1,1
+insert,1,6
+insert,1,2
+insert,1,5
+insert,1,3
+insert,1,4
+commit,1
+start,2,4,even:2,n:0
+scan,0,0
+begin,2
+update,2,0.0,8
+insert,2,9
+scan,1,1
+scan,1,1
+commit,2
+scan,0,1
+seal,1
+seal,0
+load,0
+switch
+",
+        answers: "1,ok
+2,ok,1
+3,ok,1,0.0
+4,ok,2,0.1
+5,ok,3,1.0
+6,ok,4,1.1
+7,ok,5,2.0
+8,ok,6,2.1
+9,ok,7,3.0
+10,ok,8
+11,ok,4
+12,ok,0
+13,ok,2
+14,ok,9,0.0
+15,ok,10,3.1
+16,ok,2
+17,ok,3
+18,ok,11
+19,ok,1
+20,ok,3
+21,ok,1
+22,ok,8
+23,ok,12,ready:0
+23,pages,0
+",
+        is_short: true,
+        ..PLAIN
+    },
+];
