@@ -45,7 +45,12 @@ quit
     ..SCRIPT
 };
 
-pub static RUNS: [Run; 10] = [
+/// The runs of this file.
+pub fn runs() -> &'static [Run] {
+    &RUNS
+}
+
+static RUNS: [Run; 10] = [
     // The table, rows, scans, entries and pairs of examples/while_in_use.csv, with a status at each phase.
     Run {
         name: "a build while a transaction writes",

@@ -2,7 +2,7 @@
 
 use crate::printed::Printed;
 use crate::run::Run;
-use crate::stories::{STORIES, UNSENT};
+use crate::stories::{UNSENT, answers, looks, others};
 use crate::stream::{Failure, Stream};
 use crate::task::Streams;
 use std::alloc::{AllocError, Global};
@@ -234,14 +234,33 @@ fn is_told<A: Threads + Wait + Sync>(
     .is_told(rt, alloc))
 }
 
-/// The first story that prints something else than it has to when a call fails.
+/// All stories. (Each list hands itself out: the proof of a loop that knows the values of all of them grows too large.)
+fn all_stories() -> [&'static [Story]; 3] {
+    [answers(), looks(), others()]
+}
+
+/// The first of these stories that prints something else than it has to when a call fails.
+fn first_otherwise<A: Threads + Wait + Sync>(
+    rt: &A,
+    alloc: Global,
+    stories: &'static [Story],
+) -> Result<Option<&'static str>, AllocError> {
+    for story in stories {
+        if !is_told(rt, alloc, story)? {
+            return Ok(Some(story.run.name));
+        }
+    }
+    Ok(None)
+}
+
 fn told_otherwise<A: Threads + Wait + Sync>(
     rt: &A,
     alloc: Global,
 ) -> Result<Option<&'static str>, AllocError> {
-    for story in &STORIES {
-        if !is_told(rt, alloc, story)? {
-            return Ok(Some(story.run.name));
+    for stories in all_stories() {
+        let other = first_otherwise(rt, alloc, stories)?;
+        if other.is_some() {
+            return Ok(other);
         }
     }
     Ok(None)

@@ -3,7 +3,22 @@
 use crate::run::{Out, Run, SCRIPT};
 use crate::task::Task;
 
-pub static RUNS: [Run; 24] = [
+/// Files of all kinds.
+pub fn files() -> &'static [Run] {
+    &FILES
+}
+
+/// What is looked for in them.
+pub fn look_ups() -> &'static [Run] {
+    &LOOK_UPS
+}
+
+/// Records that are left out, and indexes that are refused.
+pub fn refused() -> &'static [Run] {
+    &REFUSED
+}
+
+static FILES: [Run; 12] = [
     Run {
         name: "quotes, commas and ends of lines in fields",
         task: Task::Index(&[
@@ -135,6 +150,9 @@ pub static RUNS: [Run; 24] = [
         err: "rows read: 4, pages scanned: 1, pairs loaded: 4\nk: pages leased at most: 1\n",
         ..SCRIPT
     },
+];
+
+static LOOK_UPS: [Run; 8] = [
     Run {
         name: "the beginning of a key",
         task: Task::Index(&[
@@ -247,6 +265,9 @@ pub static RUNS: [Run; 24] = [
         err: "rows read: 4, pages scanned: 1, pairs loaded: 1\na: pages leased at most: 1\n",
         ..SCRIPT
     },
+];
+
+static REFUSED: [Run; 4] = [
     Run {
         name: "records that are left out",
         task: Task::Index(&[

@@ -3,8 +3,13 @@
 use crate::run::{Out, Run, SCRIPT};
 use crate::task::Task;
 
+/// The runs of this file.
+pub fn runs() -> &'static [Run] {
+    &RUNS
+}
+
 /// Names from the last, sizes from the least, an empty one before all, and numbers from the last. The tree of 120 rows has two levels.
-pub static RUNS: [Run; 1] = [Run {
+static RUNS: [Run; 1] = [Run {
     name: "rows that were drawn",
     task: Task::Index(&[
         "--columns",

@@ -3,7 +3,12 @@
 use crate::run::{Out, Run, SCRIPT};
 use crate::task::Task;
 
-pub static RUNS: [Run; 14] = [
+/// The runs of this file.
+pub fn runs() -> &'static [Run] {
+    &RUNS
+}
+
+static RUNS: [Run; 14] = [
     Run {
         name: "an empty file",
         task: Task::Index(&["--columns", "a:int", "--on", "a"]),

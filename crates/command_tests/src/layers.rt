@@ -21,7 +21,12 @@ const ROWS: Lines = Lines {
     ..NO_LINES
 };
 
-pub static RUNS: [Run; 13] = [
+/// The runs of this file.
+pub fn runs() -> &'static [Run] {
+    &RUNS
+}
+
+static RUNS: [Run; 13] = [
     Run {
         name: "changes, and which are refused",
         rest: b"table,1,int

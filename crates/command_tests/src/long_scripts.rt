@@ -86,7 +86,12 @@ pairs,0
     ..SCRIPT
 };
 
-pub static RUNS: [Run; 8] = [
+/// The runs of this file.
+pub fn runs() -> &'static [Run] {
+    &RUNS
+}
+
+static RUNS: [Run; 8] = [
     FEW,
     Run {
         name: "more entries than a ring has room for",

@@ -10,7 +10,12 @@ const ROWS: Lines = Lines {
     ..NO_LINES
 };
 
-pub static RUNS: [Run; 11] = [
+/// The runs of this file.
+pub fn runs() -> &'static [Run] {
+    &RUNS
+}
+
+static RUNS: [Run; 11] = [
     Run {
         name: "a table alone",
         task: Task::Picture,

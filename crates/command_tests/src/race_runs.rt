@@ -9,7 +9,12 @@ const ROWS: Lines = Lines {
     ..NO_LINES
 };
 
-pub static RUNS: [Run; 14] = [
+/// The runs of this file.
+pub fn runs() -> &'static [Run] {
+    &RUNS
+}
+
+static RUNS: [Run; 14] = [
     Run {
         name: "two indexes with spools of both kinds",
         task: Task::Race(2),

@@ -13,7 +13,12 @@ const GOOD: Run = Run {
     ..SCRIPT
 };
 
-pub static RUNS: [Run; 3] = [
+/// The runs of this file.
+pub fn runs() -> &'static [Run] {
+    &RUNS
+}
+
+static RUNS: [Run; 3] = [
     GOOD,
     Run {
         name: "a race is good as a race",

@@ -62,7 +62,22 @@ const OF_SCRIPTS: Story = Story {
     is_early: false,
 };
 
-pub static STORIES: [Story; 10] = [
+/// Each kind of answer.
+pub fn answers() -> &'static [Story] {
+    &ANSWERS
+}
+
+/// Bad scripts, checks and races.
+pub fn looks() -> &'static [Story] {
+    &LOOKS
+}
+
+/// Long answers, pictures and files.
+pub fn others() -> &'static [Story] {
+    &OTHERS
+}
+
+static ANSWERS: [Story; 1] = [
     // Each kind of answer.
     Story {
         run: Run {
@@ -132,6 +147,9 @@ delete,C,0.1
         flushes: 1,
         ..OF_SCRIPTS
     },
+];
+
+static LOOKS: [Story; 5] = [
     Story {
         run: Run {
             name: "a bad script",
@@ -208,6 +226,9 @@ pages,0
         flushes: 0,
         ..OF_SCRIPTS
     },
+];
+
+static OTHERS: [Story; 4] = [
     // Answers of 9,655 bytes, more than are kept back before they are written.
     Story {
         run: Run {

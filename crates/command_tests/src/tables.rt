@@ -10,18 +10,21 @@ use std::sync::Wait;
 use std::test::Fail;
 use std::thread::Threads;
 
-fn tables() -> [&'static [Run]; 10] {
+// Each file hands its own out: a proof that knows the values of all of them at once grows too large.
+fn tables() -> [&'static [Run]; 12] {
     [
-        &conversations::RUNS,
-        &index_files::RUNS,
-        &index_orders::RUNS,
-        &index_refusals::RUNS,
-        &layers::RUNS,
-        &long_scripts::RUNS,
-        &pictures::RUNS,
-        &race_runs::RUNS,
-        &races::RUNS,
-        &verdicts::RUNS,
+        conversations::runs(),
+        index_files::files(),
+        index_files::look_ups(),
+        index_files::refused(),
+        index_orders::runs(),
+        index_refusals::runs(),
+        layers::runs(),
+        long_scripts::runs(),
+        pictures::runs(),
+        race_runs::runs(),
+        races::runs(),
+        verdicts::runs(),
     ]
 }
 

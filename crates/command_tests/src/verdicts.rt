@@ -2,7 +2,12 @@
 
 use crate::run::{Out, Run, SCRIPT};
 
-pub static RUNS: [Run; 13] = [
+/// The runs of this file.
+pub fn runs() -> &'static [Run] {
+    &RUNS
+}
+
+static RUNS: [Run; 13] = [
     Run {
         name: "no pair is unique",
         rest: b"table,16,int
