@@ -6,6 +6,7 @@ use crate::programs::{Program, does};
 use crate::reported::{are_reported, committed};
 use crate::rows::{On, Rows, rest_of, row, shared_table};
 use crate::thread_builds::{Build, WHOLE};
+use crate::together;
 use crate::watch::Watch;
 use builder_core::{Ends, Live, Plan};
 use crew::{BuildFault, Opened, Receipt, Report, Session, Table, TableParts, build};
@@ -23,6 +24,8 @@ const RECORDS: usize = 64;
 /// What happens on a table.
 #[derive(Drop)]
 pub struct Together {
+    /// Its place among all.
+    pub place: usize,
     pub rows: Rows,
     /// What each session does.
     pub programs: [&'static Program; 4],
@@ -58,7 +61,7 @@ fn by_one<T: Opened, R: Wait>(
     rt: &R,
     alloc: Global,
     mut session: Session<'_, T>,
-    program: &Program,
+    program: &'static Program,
 ) -> Written<T> {
     let mut receipts = room(alloc);
     let is_fine = does(rt, alloc, &mut session, &mut receipts, program);
@@ -74,18 +77,30 @@ fn gathered<T: Opened>(one: Written<T>, two: Written<T>) -> Written<T> {
     (receipts, is_fine && two.1)
 }
 
+/// What the session of a place among the four does. A thread takes its number along, which needs no proof that a program may be shared.
+fn by_number<T: Opened, R: Wait>(
+    rt: &R,
+    alloc: Global,
+    session: Session<'_, T>,
+    number: usize,
+) -> Written<T> {
+    let together = together::all()[number / 4 % 4];
+    by_one(rt, alloc, session, together.programs[number % 4])
+}
+
+/// Two sessions, of that place and the next.
 fn by_two<T: Opened + Send + Sync, R: Threads + Wait + Sync>(
     rt: &R,
     alloc: Global,
-    one: Session<'_, T>,
-    two: Session<'_, T>,
-    first: &'static Program,
-    second: &'static Program,
+    table: &Table<T>,
+    number: usize,
 ) -> Written<T> {
+    let (one, two) = (table.session(rt), table.session(rt));
+    let next = number.saturating_add(1);
     let (a, b) = join(
         rt,
-        move || by_one(rt, alloc, one, first),
-        move || by_one(rt, alloc, two, second),
+        move || by_number(rt, alloc, one, number),
+        move || by_number(rt, alloc, two, next),
     );
     gathered(a, b)
 }
@@ -93,18 +108,14 @@ fn by_two<T: Opened + Send + Sync, R: Threads + Wait + Sync>(
 fn by_four<T: Opened + Send + Sync, R: Threads + Wait + Sync>(
     rt: &R,
     alloc: Global,
-    one: Session<'_, T>,
-    two: Session<'_, T>,
-    three: Session<'_, T>,
-    four: Session<'_, T>,
-    programs: [&'static Program; 4],
+    table: &Table<T>,
+    number: usize,
 ) -> Written<T> {
-    let (first, second) = (programs[0], programs[1]);
-    let (third, fourth) = (programs[2], programs[3]);
+    let third = number.saturating_add(2);
     let (a, b) = join(
         rt,
-        move || by_two(rt, alloc, one, two, first, second),
-        move || by_two(rt, alloc, three, four, third, fourth),
+        move || by_two(rt, alloc, table, number),
+        move || by_two(rt, alloc, table, third),
     );
     gathered(a, b)
 }
@@ -133,15 +144,13 @@ fn written<T: Opened + Send + Sync, R: Threads + Wait + Sync>(
     spools: Vec<FaultySpool<PlainSpool>>,
     together: &Together,
 ) -> (Written<T>, Option<Built<T>>) {
-    let (one, two) = (table.session(rt), table.session(rt));
-    let (three, four) = (table.session(rt), table.session(rt));
-    let programs = together.programs;
+    let first = together.place.saturating_mul(4);
     let Some(asked) = together.build else {
-        return (by_four(rt, alloc, one, two, three, four, programs), None);
+        return (by_four(rt, alloc, table, first), None);
     };
     let (written, told) = join(
         rt,
-        move || by_four(rt, alloc, one, two, three, four, programs),
+        move || by_four(rt, alloc, table, first),
         || built(rt, alloc, table, ends, plan, spools, asked),
     );
     (written, Some(told))

@@ -16,6 +16,7 @@ const THREE: Rows = Rows {
 };
 
 const ALONE: Together = Together {
+    place: 0,
     rows: THREE,
     programs: [&IDLE, &IDLE, &IDLE, &IDLE],
     build: None,
@@ -38,6 +39,7 @@ commit,A
 
 /// Two sessions insert a hundred rows each.
 static TWO: Together = Together {
+    place: 0,
     programs: [&INSERTS, &INSERTS, &IDLE, &IDLE],
     ..ALONE
 };
@@ -63,6 +65,7 @@ commit,A
 
 /// Four sessions write to the same rows.
 static FOUR: Together = Together {
+    place: 1,
     programs: [&CHANGES, &CHANGES, &CHANGES, &CHANGES],
     ..ALONE
 };
@@ -152,6 +155,7 @@ const UNIQUE_BUILD: Build = Build {
 /// Four sessions write to the same rows and want the same key, while a build makes this key unique and after it. The
 /// last transaction that wants it commits, so one of them has it in the end.
 static CONTENDED: Together = Together {
+    place: 2,
     programs: [&WANTS, &WANTS, &WANTS, &WANTS],
     build: Some(&UNIQUE_BUILD),
     taken: Some(7),
@@ -215,6 +219,7 @@ const TWO_INDEXES: Build = Build {
 
 /// A build of two indexes by two workers beside a session, and one more turn behind it. Memory may run out once.
 static SHORT: Together = Together {
+    place: 3,
     rows: Rows {
         more: 1000,
         is_reversed: false,
@@ -227,6 +232,11 @@ static SHORT: Together = Together {
     taken: None,
     left: 14,
 };
+
+/// All of them, each at its place.
+pub fn all() -> [&'static Together; 4] {
+    [&TWO, &FOUR, &CONTENDED, &SHORT]
+}
 
 /// Two sessions insert a hundred rows each, in threads of their own.
 #[test]
