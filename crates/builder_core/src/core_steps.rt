@@ -201,8 +201,14 @@ impl<S: Spool, T: Table> Core<S, T> {
         ensures full { IfSpooling event (λ turn worker. IfErr result (NoPageOnlyIfFull S.is_full S.runs S.open_run S.stake turn self.old worker)) }
     {
         match event {
-            Event::Insert { txn, row } => self.insert_reply(txn, row),
-            Event::Update { txn, rid, row } => self.update_reply(txn, rid, row),
+            Event::Insert { txn, row } => {
+                let (number, rid) = self.insert(txn, row)?;
+                Ok(Reply::Written { number, rid })
+            }
+            Event::Update { txn, rid, row } => {
+                let (number, rid) = self.update(txn, rid, row)?;
+                Ok(Reply::Written { number, rid })
+            }
             other => self.attempt(&other),
         }
     }
@@ -213,22 +219,59 @@ impl<S: Spool, T: Table> Core<S, T> {
         ensures full { IfSpooling event.now (λ turn worker. IfErr result (NoPageOnlyIfFull S.is_full S.runs S.open_run S.stake turn self.old worker)) }
     {
         match event {
-            Event::Begin => self.begin_reply(),
-            Event::Insert { txn, row } => self.insert_lent_reply(*txn, row),
-            Event::Update { txn, rid, row } => self.update_lent_reply(*txn, *rid, row),
-            Event::Delete { txn, rid } => self.delete_reply(*txn, *rid),
-            Event::Undo { txn } => self.undo_reply(*txn),
-            Event::Commit { txn } => self.commit_reply(*txn),
-            Event::Start { plan } => self.start_reply(plan),
-            Event::Scan { range, worker } => self.scan_reply(*range, *worker),
-            Event::Digest { worker } => self.digest_reply(*worker),
-            Event::Seal { worker } => self.seal_reply(*worker),
-            Event::Load { index } => self.load_reply(*index),
-            Event::Feed { index, most } => self.feed_reply(*index, *most),
-            Event::Apply { index, most } => self.apply_reply(*index, *most),
-            Event::Fence => self.fence_reply(),
-            Event::Switch => self.switch_in_reply(),
-            Event::Abandon => self.abandon_reply(),
+            Event::Begin => Ok(Reply::Begun { txn: self.begin()? }),
+            Event::Insert { txn, row } => {
+                let (number, rid) = self.insert_lent(*txn, row)?;
+                Ok(Reply::Written { number, rid })
+            }
+            Event::Update { txn, rid, row } => {
+                let (number, rid) = self.update_lent(*txn, *rid, row)?;
+                Ok(Reply::Written { number, rid })
+            }
+            Event::Delete { txn, rid } => {
+                let (number, rid) = self.delete(*txn, *rid)?;
+                Ok(Reply::Written { number, rid })
+            }
+            Event::Undo { txn } => {
+                let Undone { number, left } = self.undo(*txn)?;
+                Ok(Reply::Undone { number, left })
+            }
+            Event::Commit { txn } => Ok(Reply::Committed {
+                number: self.commit(*txn)?,
+            }),
+            Event::Start { plan } => Ok(Reply::Started {
+                pages: self.start(plan)?,
+            }),
+            Event::Scan { range, worker } => Ok(Reply::Scanned {
+                page: self.scan(*range, *worker)?,
+            }),
+            Event::Digest { worker } => Ok(Reply::Digested {
+                images: self.digest(*worker)?,
+            }),
+            Event::Seal { worker } => Ok(Reply::Sealed {
+                images: self.seal(*worker)?,
+            }),
+            Event::Load { index } => Ok(Reply::Loaded {
+                pairs: self.load(*index)?,
+            }),
+            Event::Feed { index, most } => Ok(Reply::Fed {
+                entries: self.feed(*index, *most)?,
+            }),
+            Event::Apply { index, most } => Ok(Reply::Applied {
+                entries: self.apply(*index, *most)?,
+            }),
+            Event::Fence => {
+                self.fence()?;
+                Ok(Reply::FenceSet)
+            }
+            Event::Switch => {
+                let (number, verdicts) = self.switch_in()?;
+                Ok(Reply::Switched { number, verdicts })
+            }
+            Event::Abandon => {
+                self.abandon()?;
+                Ok(Reply::Abandoned)
+            }
         }
     }
 }

@@ -15,7 +15,6 @@
 
 mod core_calls;
 mod core_looks;
-mod core_replies;
 mod core_steps;
 mod run;
 mod shut;
