@@ -9,7 +9,7 @@ use crate::spool_pages::quota;
 use builder_core::{Dealing, INDEXES_MAX, Parts, Plan, WORKERS_MAX};
 use heap_table::{Heap, PAGES_MAX, SLOTS_MAX};
 use keybytes::{Fault, KeyCol, KeySpec, Kind, Schema};
-use spool_kinds::{CountedSpool, SpoolOfKind, spools_over};
+use prefix_spool::{CountedSpool, SpoolOfKind, spools_over};
 use spool_ledger::Pool;
 use std::alloc::{AllocError, Global};
 

@@ -12,7 +12,7 @@ use crate::rows::Rows;
 use crate::subject::Subject;
 use builder_core::{Core, Parts, Table};
 use heap_table::PAGES_MAX;
-use spool_kinds::{CountedSpool, SpoolOfKind};
+use prefix_spool::{CountedSpool, SpoolOfKind};
 use std::marker::Brand;
 
 /// With the indexes ready, one row of so many is inserted, and one updated.

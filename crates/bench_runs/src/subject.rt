@@ -10,7 +10,7 @@ use builder_core::{Core, Event, Reply, Table};
 use heap_log::Outcome;
 use keybytes::Fault;
 use rand::rngs::SmallRng;
-use spool_kinds::{CountedSpool, SpoolOfKind};
+use prefix_spool::{CountedSpool, SpoolOfKind};
 use std::alloc::Global;
 
 /// What is measured. The phases know no more of the core than this, so that their proofs do without what it keeps.

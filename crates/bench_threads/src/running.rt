@@ -14,7 +14,7 @@ use builder_core::{Dealing, Ends, Live, Plan};
 use crew::{BuildFault, Opened, Report, Table, TableParts, build};
 use heap_log::Outcome;
 use keybytes::Fault;
-use spool_kinds::SpoolOfKind;
+use prefix_spool::SpoolOfKind;
 use std::alloc::Global;
 use std::marker::Brand;
 use std::rt::Runtime;

@@ -1,5 +1,5 @@
 use heap_log::Verdicts;
-use spool_kinds::{CountedSpool, SpoolOfKind};
+use prefix_spool::{CountedSpool, SpoolOfKind};
 
 /// What a build came to.
 pub struct Built {

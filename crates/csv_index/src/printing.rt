@@ -7,7 +7,7 @@ use builder_core::{Live, Table};
 use command_line::IndexWord;
 use heap_log::Outcome;
 use keybytes::{Cell, Fault, KeySpec, Rid};
-use spool_kinds::{CountedSpool, SpoolOfKind};
+use prefix_spool::{CountedSpool, SpoolOfKind};
 use std::io::{self, Write};
 use tree_nodes::{FAN_MAX, LEAF_MAX};
 

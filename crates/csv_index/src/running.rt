@@ -15,7 +15,7 @@ use crew::{BuildFault, Opened, Table, TableParts, build};
 use heap_log::Verdicts;
 use heap_table::Heap;
 use keybytes::{Fault, copied_specs};
-use spool_kinds::{CountedSpool, SpoolOfKind};
+use prefix_spool::{CountedSpool, SpoolOfKind};
 use std::alloc::Global;
 use std::io::{self, ErrorKind, Read, Write};
 use std::marker::Brand;

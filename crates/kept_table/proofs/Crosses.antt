@@ -13,7 +13,7 @@ use Rattle.rtrb.proofs.consumer.Consumer.TheSendSync as consumer
 use Rattle.side_file.proofs.entry.Entry.TheSendSync as entry
 use Rattle.side_file.proofs.side_file.SideFile.TheSendSync as side
 use Rattle.run_spool.specs.declared.spool.Spool as spool
-use Rattle.spool_kinds.proofs.either.SpoolOfKind.TheSendSync as spools
+use Rattle.prefix_spool.proofs.either.SpoolOfKind.TheSendSync as spools
 use Rattle.page_workers.proofs.intake.Intake.TheSendSync as intake
 use Rattle.page_workers.proofs.page_putter.PagePutter.TheSendSync as putter
 use Rattle.page_workers.proofs.worker.Worker.TheSendSync as worker

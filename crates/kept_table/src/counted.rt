@@ -17,7 +17,7 @@ use heap_log::Verdicts;
 use keybytes::{Fault, Rid, Row};
 use leased_core::LeasedCore;
 use run_spool::SpoolChoice;
-use spool_kinds::SpoolOfKind;
+use prefix_spool::SpoolOfKind;
 use std::alloc::Global;
 use std::marker::Model;
 

@@ -14,7 +14,7 @@ use crate::shut_counted::ShutCounted;
 use btree::Tree;
 use builder_core::{Core, Pair, Table};
 use keybytes::{Fault, Key, KeyCol, KeySpec, Rid, Row, Schema};
-use spool_kinds::SpoolOfKind;
+use prefix_spool::SpoolOfKind;
 use std::alloc::Global;
 use std::marker::Brand;
 use tree_nodes::is_after;

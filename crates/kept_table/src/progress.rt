@@ -7,7 +7,7 @@ use crate::counted::Counted;
 use crate::kept::taken;
 use crate::shut_counted::ShutCounted;
 use builder_core::{Core, Table};
-use spool_kinds::SpoolOfKind;
+use prefix_spool::SpoolOfKind;
 use std::marker::Brand;
 
 /// How far the build that runs is; where none does all is 0.

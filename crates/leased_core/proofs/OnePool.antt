@@ -11,8 +11,8 @@ use Rattle.spool_ledger.specs.Pools.{PoolValue, after_reclaim, free_of, new_pool
 use Rattle.run_spool.specs.PagedSpools.{PagedSpoolValue, new_spool, runs_of}
 use Rattle.run_spool.specs.Runs.{pairs_of}
 use Rattle.run_spool.specs.Spools.{holds_nothing, stakes_in}
-use Rattle.spool_kinds.specs.Kinds.{inside}
-use Rattle.spool_kinds.specs.declared.either.SpoolOfKind.{SpoolOfKind}
+use Rattle.prefix_spool.specs.Kinds.{inside}
+use Rattle.prefix_spool.specs.declared.either.SpoolOfKind.{SpoolOfKind}
 use Rattle.build_events.specs.CoreState.{SpoolsState}
 use Rattle.building.specs.Holding.{spools_in}
 use Rattle.leased_core.specs.Leasing.{AreOf, LeasesValue, new_spools, pages_of, spools_of_kinds, stake_in}

@@ -6,8 +6,8 @@ use Rattle.spool_ledger.specs.Pools.{PoolValue}
 use Rattle.run_spool.specs.PagedSpools.{runs_of}
 use Rattle.run_spool.specs.Runs.{pairs_of}
 use Rattle.run_spool.specs.Spools.{stakes_in}
-use Rattle.spool_kinds.specs.Kinds.{inside, IsFullOfKind}
-use Rattle.spool_kinds.specs.declared.either.SpoolOfKind.{SpoolOfKind}
+use Rattle.prefix_spool.specs.Kinds.{inside, IsFullOfKind}
+use Rattle.prefix_spool.specs.declared.either.SpoolOfKind.{SpoolOfKind}
 use Rattle.keybytes.specs.declared.fault.Fault.{Fault}
 use Rattle.keybytes.specs.declared.fault.Fault.TheVariants.{Memory}
 use Rattle.build_events.specs.CoreState.{CoreState, SpoolsState, idle, opening, with_heap}

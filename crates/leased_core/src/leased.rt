@@ -16,7 +16,7 @@ use heap_log::Verdicts;
 use heap_table::Undone;
 use keybytes::{Fault, KeySpec, Pair, Rid, Row};
 use run_spool::SpoolChoice;
-use spool_kinds::SpoolOfKind;
+use prefix_spool::SpoolOfKind;
 use std::alloc::Global;
 use std::marker::Model;
 

@@ -1,11 +1,11 @@
 ghost use Rattle.std.specs.Prelude.{◌≡◌, ◌≤◌, ◌<◌, ◌^◌, All, map, replicate, IfOk, IfErr};
 ghost use Rattle.run_spool.specs.Choices.{kinds_from};
-ghost use Rattle.spool_kinds.specs.Kinds.{kind_of};
+ghost use Rattle.prefix_spool.specs.Kinds.{kind_of};
 ghost use Rattle.leased_core.specs.Leasing.{AreOf, new_spools, spools_of_kinds, stake_in};
 
 use keybytes::Fault;
 use run_spool::{SpoolChoice, give_up_all};
-use spool_kinds::{SpoolOfKind, spools_over};
+use prefix_spool::{SpoolOfKind, spools_over};
 use spool_ledger::{Account, Pool};
 use std::alloc::Global;
 use std::marker::Model;

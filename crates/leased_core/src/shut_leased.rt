@@ -3,7 +3,7 @@ ghost use Rattle.std.specs.Prelude.{◌≡◌};
 use crate::LeasedCore;
 use crate::leases::Leases;
 use builder_core::{Shut, Table};
-use spool_kinds::SpoolOfKind;
+use prefix_spool::SpoolOfKind;
 use std::alloc::Global;
 use std::marker::Model;
 

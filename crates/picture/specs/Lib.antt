@@ -1,1 +1,3 @@
 pub mod Sights
+pub mod Escapes
+pub mod Stacks

@@ -3,8 +3,8 @@ use Rattle.std.specs.Prelude.{ℕ, ◌||◌, nat_le, if◌then◌else◌, length
 use Rattle.keybytes.specs.declared.rid.Rid.{Rid}
 use Rattle.scan_range.specs.Ranges.{RangesValue, after_advance, is_done}
 use Rattle.visibility.specs.Visible.{is_visible_in}
-use Rattle.timeline_svg.specs.declared.mark.Side.{Side}
-use Rattle.timeline_svg.specs.declared.mark.Side.TheVariants.{Ahead, Behind, NoBuild}
+use Rattle.picture.specs.declared.timeline_svg.mark.Side.{Side}
+use Rattle.picture.specs.declared.timeline_svg.mark.Side.TheVariants.{Ahead, Behind, NoBuild}
 
 -- behind the scan is what the build has to hear of, ahead of it what its scan will meet
 abbrev pub side_in : RangesValue → Rid → Side

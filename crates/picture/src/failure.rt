@@ -2,7 +2,7 @@ use keybytes::Fault;
 use std::alloc::{AllocError, AllocFailed};
 use std::{fmt, io};
 use thiserror::Error;
-use timeline_svg::PictureError;
+use crate::timeline_svg::PictureError;
 
 /// Why there is no picture of a script.
 #[derive(Clone, Copy, Debug, Drop, Error, PartialEq, Eq)]

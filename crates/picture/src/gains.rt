@@ -9,10 +9,10 @@ use btree::Tree;
 use builder_core::{Core, Table};
 use keybytes::{KeySpec, Pair};
 use replay::SharedLine;
-use spool_kinds::SpoolOfKind;
+use prefix_spool::SpoolOfKind;
 use std::alloc::Global;
 use std::fmt::Write;
-use timeline_svg::{Gain, GainKind};
+use crate::timeline_svg::{Gain, GainKind};
 
 /// The most pairs of an index that are shown.
 const PAIRS_MAX: usize = 40;

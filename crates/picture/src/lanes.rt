@@ -4,7 +4,7 @@ use builder_core::{Dealing, INDEXES_MAX};
 use scan_range::RANGES_MAX;
 use script::{Command, NumberedCommand, Start};
 use std::alloc::Global;
-use timeline_svg::{Lane, LaneKind};
+use crate::timeline_svg::{Lane, LaneKind};
 
 /// Which lanes the picture of a script has, from the left: a lane for each range of pages, one for the rows that are put in by
 /// transactions of their own, one for each label, one for the workers, and one for each index of a build.

@@ -1,6 +1,6 @@
 use crate::failure::Failure;
 use std::alloc::Global;
-use timeline_svg::{Span, SpanKind};
+use crate::timeline_svg::{Span, SpanKind};
 
 /// What lasts in the lanes: of each lane one span at most grows from row to row.
 #[derive(Drop)]

@@ -1,7 +1,7 @@
 //! The picture of a script's run.
 //!
 //! [`picture`] runs a script as `replay` does, one command after the other in one thread, looks at the table before and behind each, and draws what
-//! it saw. [`Story`] is what it saw so far; [`Sight`] is what is known of the build that runs.
+//! it saw. [`Story`] is what it saw so far; [`Sight`] is what is known of the build that runs. `timeline_svg` draws it.
 #![tactic(auto)]
 
 mod deed;
@@ -17,6 +17,7 @@ mod sight;
 mod story;
 mod teller;
 mod telling;
+mod timeline_svg;
 mod txn_lane;
 mod words;
 

@@ -14,7 +14,7 @@ use script::{NumberedCommand, Script, read_text};
 use std::alloc::Global;
 use std::io::{Read, Write};
 use std::marker::Brand;
-use timeline_svg::{PictureError, ROWS_MAX, svg};
+use crate::timeline_svg::{PictureError, ROWS_MAX, svg};
 
 /// Runs the script that the reader gives, and writes a picture of that to `out`, under that title. A script that can't be run, and one of more
 /// records than a picture has rows, is named on `err`, and then nothing is written to `out`. Answers the exit status.

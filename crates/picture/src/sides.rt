@@ -8,10 +8,10 @@ use crate::failure::Failure;
 use crate::words::key_at;
 use builder_core::{Core, Entry, INDEXES_MAX, Op, Table};
 use keybytes::KeySpec;
-use spool_kinds::SpoolOfKind;
+use prefix_spool::SpoolOfKind;
 use std::alloc::Global;
 use std::collections::vec_deque::Iter;
-use timeline_svg::{Mark, MarkKind};
+use crate::timeline_svg::{Mark, MarkKind};
 
 /// How many entries the side-file of each index has that aren't fed yet; none where no build runs.
 pub fn counts<T: Table>(alloc: Global, core: &Core<SpoolOfKind, T>) -> Result<Vec<usize>, Failure> {

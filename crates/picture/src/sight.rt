@@ -10,7 +10,7 @@ use keybytes::Rid;
 use scan_range::Ranges;
 use std::alloc::Global;
 use std::marker::Model;
-use timeline_svg::{Side, SpanKind};
+use crate::timeline_svg::{Side, SpanKind};
 use visibility::visible;
 
 /// How far a running build is: its ranges, and how many entries wait in the ring of each of its indexes. Contracts see the ranges.

@@ -9,9 +9,9 @@ use builder_core::{Core, Table};
 use keybytes::Fault;
 use replay::Answer;
 use script::Command;
-use spool_kinds::SpoolOfKind;
+use prefix_spool::SpoolOfKind;
 use std::alloc::Global;
-use timeline_svg::{Row, Timeline};
+use crate::timeline_svg::{Row, Timeline};
 
 /// What was seen of a script's run so far: a row for each record.
 #[derive(Drop)]

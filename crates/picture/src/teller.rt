@@ -13,10 +13,10 @@ use builder_core::{Core, Table};
 use keybytes::{Fault, Rid};
 use replay::Answer;
 use script::Command;
-use spool_kinds::SpoolOfKind;
+use prefix_spool::SpoolOfKind;
 use std::alloc::Global;
 use std::mem;
-use timeline_svg::{Gain, Mark, MarkKind, Row, RowKind, Side, Timeline};
+use crate::timeline_svg::{Gain, Mark, MarkKind, Row, RowKind, Side, Timeline};
 
 /// What is known of a script's run, to tell its next record by.
 #[derive(Drop)]

@@ -10,9 +10,9 @@ use builder_core::{Core, Dealing, Table};
 use heap_log::Outcome;
 use keybytes::Rid;
 use replay::{Answer, SharedLine};
-use spool_kinds::SpoolOfKind;
+use prefix_spool::SpoolOfKind;
 use std::fmt::Write;
-use timeline_svg::{MarkKind, Row, RowKind, SpanKind};
+use crate::timeline_svg::{MarkKind, Row, RowKind, SpanKind};
 
 impl Teller {
     /// Tells a command that was answered so.

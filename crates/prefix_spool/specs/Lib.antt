@@ -1,3 +1,5 @@
 pub mod Numbers
 pub mod PrefixBytes
 pub mod PrefixPages
+pub mod Kinds
+pub mod Faulty

@@ -13,7 +13,7 @@ use Rattle.replay.specs.Listings.{ListsShared, key_spec_of}
 use Rattle.script.specs.declared.race.build.Build.{Build}
 use Rattle.run_spool.specs.Choices.{kinds_from}
 use Rattle.run_spool.specs.declared.choice.SpoolChoice.{SpoolChoice}
-use Rattle.spool_kinds.specs.Kinds.{kind_of}
+use Rattle.prefix_spool.specs.Kinds.{kind_of}
 use Rattle.race.specs.declared.outcome.Outcome.{Outcome}
 use Rattle.race.specs.declared.planned.Planned.{Planned}
 

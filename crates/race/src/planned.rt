@@ -7,7 +7,7 @@ use leased_core::Leases;
 use replay::{is_in_limits, key_specs};
 use run_spool::SpoolChoice;
 use script::Build;
-use spool_kinds::SpoolOfKind;
+use prefix_spool::SpoolOfKind;
 use std::alloc::Global;
 
 /// How many turns a build of a race may take.

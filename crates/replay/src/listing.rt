@@ -15,7 +15,7 @@ use btree::Tree;
 use builder_core::{Core, Entry, Pair, Table};
 use heap_log::Outcome;
 use keybytes::{Fault, KeySpec, copied_specs};
-use spool_kinds::SpoolOfKind;
+use prefix_spool::SpoolOfKind;
 use std::alloc::Global;
 use std::collections::vec_deque::Iter;
 

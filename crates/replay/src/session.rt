@@ -24,7 +24,7 @@ use keybytes::{Cell, Fault, KeySpec, Rid, Row};
 use leased_core::LeasedCore;
 use run_spool::SpoolChoice;
 use script::{Command, Label, Spec, Start};
-use spool_kinds::SpoolOfKind;
+use prefix_spool::SpoolOfKind;
 use std::alloc::Global;
 
 /// The transactions on a table that a script has named, the kind of spools that it has chosen, and how it has gone so far.

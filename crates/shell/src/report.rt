@@ -5,7 +5,7 @@ use crate::counts::Counts;
 use crate::status_line::StatusLine;
 use crate::wait::Wait;
 use builder_core::{Core, Table};
-use spool_kinds::SpoolOfKind;
+use prefix_spool::SpoolOfKind;
 use std::alloc::{AllocFailed, Global};
 
 /// The most entries that a switch applies, over all indexes.

@@ -12,7 +12,7 @@ use builder_core::{Ends, Live, Plan};
 use crew::{BuildFault, Opened, Receipt, Report, Session, Table, TableParts, build};
 use keybytes::Fault;
 use run_spool::PlainSpool;
-use spool_kinds::FaultySpool;
+use prefix_spool::FaultySpool;
 use std::alloc::Global;
 use std::marker::Brand;
 use std::sync::Wait;

@@ -13,7 +13,7 @@ use crate::turns::Turn;
 use builder_core::{Ends, Event, Live, Parts, Reply, Table, run_events};
 use keybytes::{Fault, Schema};
 use run_spool::{PlainSpool, Spool};
-use spool_kinds::FaultySpool;
+use prefix_spool::FaultySpool;
 use std::alloc::Global;
 use std::marker::Brand;
 

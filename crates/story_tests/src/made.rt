@@ -6,7 +6,7 @@ use crate::place::{Place, coming_to};
 use crate::story::Stock;
 use keybytes::{Fault, Key, Pair, Rid};
 use run_spool::{PlainSpool, Spool, give_up};
-use spool_kinds::FaultySpool;
+use prefix_spool::FaultySpool;
 use spool_ledger::Pool;
 use std::alloc::Global;
 

@@ -15,7 +15,7 @@ use keybytes::Fault;
 use replay::Answer;
 use run_spool::PlainSpool;
 use script::{Command, Script};
-use spool_kinds::FaultySpool;
+use prefix_spool::FaultySpool;
 use std::alloc::Global;
 use std::marker::Brand;
 use std::sync::Wait;

@@ -2,7 +2,7 @@
 
 use keybytes::Fault;
 use script::Command;
-use spool_kinds::Coming;
+use prefix_spool::Coming;
 
 /// One place where a spool can fail.
 #[derive(Clone, Copy)]

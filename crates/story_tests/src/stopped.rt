@@ -5,7 +5,7 @@ use crate::rows::{PAIRED, Rows};
 use crate::thread_builds::{Build, FIRST, WHOLE, outcome};
 use crate::watch::{FREE, Holds, Seen};
 use keybytes::Fault;
-use spool_kinds::Coming;
+use prefix_spool::Coming;
 use std::alloc::Global;
 use std::sync::Wait;
 use std::thread::Threads;

@@ -15,7 +15,7 @@ use keybytes::Fault;
 use replay::{replay, table_parts};
 use run_spool::PlainSpool;
 use script::{Script, Start};
-use spool_kinds::FaultySpool;
+use prefix_spool::FaultySpool;
 use std::alloc::Global;
 use std::marker::Brand;
 

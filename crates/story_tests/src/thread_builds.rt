@@ -10,7 +10,7 @@ use crew::{BuildFault, Opened, Receipt, Report, Table, TableParts, build};
 use heap_log::Outcome;
 use keybytes::Fault;
 use run_spool::PlainSpool;
-use spool_kinds::{Coming, FaultySpool};
+use prefix_spool::{Coming, FaultySpool};
 use std::alloc::Global;
 use std::marker::Brand;
 use std::sync::Wait;

@@ -1,4 +1,4 @@
-use Rattle.spool_kinds.proofs.Accounts.{are_whole}
+use Rattle.prefix_spool.proofs.Accounts.{are_whole}
 use Rattle.bench_runs.proofs.build.spools.Goals as goal
 
 pub spools_over-requires : goal.spools_over-requires

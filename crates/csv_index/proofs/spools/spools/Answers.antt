@@ -1,4 +1,4 @@
-use Rattle.spool_kinds.proofs.Accounts.{are_whole}
+use Rattle.prefix_spool.proofs.Accounts.{are_whole}
 use Rattle.csv_index.proofs.spools.spools.Goals as goal
 
 pub spools_over-requires : goal.spools_over-requires

@@ -2,7 +2,7 @@ use Rattle.std.proofs.Common.{◌≡◌, ◌∙◌, ◌*◌, map, replicate, ap,
 use Rattle.spool_ledger.specs.Accounts.{new_account}
 use Rattle.spool_ledger.specs.Pools.{PoolValue}
 use Rattle.build_events.specs.CoreState.{SpoolsState}
-use Rattle.spool_kinds.proofs.Accounts.{are_whole}
+use Rattle.prefix_spool.proofs.Accounts.{are_whole}
 use Rattle.leased_core.proofs.OnePool.{new_are_new, split_are_of}
 use Rattle.leased_core.proofs.leases.Leases.new.Goals as goal
 
