@@ -3,8 +3,8 @@
 use crate::table::KeySizes;
 use builder_core::{INDEXES_MAX, WORKERS_MAX};
 use keybytes::{Fault, KEY_MAX, KeySpec};
-use run_spool::SpoolChoice;
 use prefix_spool::{CountedSpool, SpoolOfKind, spools_over};
+use run_spool::SpoolChoice;
 use spool_ledger::{PAGE_SIZE, Pool};
 use std::alloc::Global;
 

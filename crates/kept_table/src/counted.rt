@@ -16,8 +16,8 @@ use builder_core::{Core, Event, Parts, Plan, Reply, Table};
 use heap_log::Verdicts;
 use keybytes::{Fault, Rid, Row};
 use leased_core::LeasedCore;
-use run_spool::SpoolChoice;
 use prefix_spool::SpoolOfKind;
+use run_spool::SpoolChoice;
 use std::alloc::Global;
 use std::marker::Model;
 

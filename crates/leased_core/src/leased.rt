@@ -15,8 +15,8 @@ use builder_core::{Core, Ends, Event, Live, Plan, Reply, Table};
 use heap_log::Verdicts;
 use heap_table::Undone;
 use keybytes::{Fault, KeySpec, Pair, Rid, Row};
-use run_spool::SpoolChoice;
 use prefix_spool::SpoolOfKind;
+use run_spool::SpoolChoice;
 use std::alloc::Global;
 use std::marker::Model;
 

@@ -4,8 +4,8 @@ ghost use Rattle.prefix_spool.specs.Kinds.{kind_of};
 ghost use Rattle.leased_core.specs.Leasing.{AreOf, new_spools, spools_of_kinds, stake_in};
 
 use keybytes::Fault;
-use run_spool::{SpoolChoice, give_up_all};
 use prefix_spool::{SpoolOfKind, spools_over};
+use run_spool::{SpoolChoice, give_up_all};
 use spool_ledger::{Account, Pool};
 use std::alloc::Global;
 use std::marker::Model;

@@ -1,8 +1,8 @@
+use crate::timeline_svg::PictureError;
 use keybytes::Fault;
 use std::alloc::{AllocError, AllocFailed};
 use std::{fmt, io};
 use thiserror::Error;
-use crate::timeline_svg::PictureError;
 
 /// Why there is no picture of a script.
 #[derive(Clone, Copy, Debug, Drop, Error, PartialEq, Eq)]

@@ -4,15 +4,15 @@ ghost use Rattle.keybytes.specs.Keys.{IsKeyOf};
 ghost use Rattle.keybytes.specs.Pairs.{HaveKeysOf};
 
 use crate::failure::Failure;
+use crate::timeline_svg::{Gain, GainKind};
 use crate::words::{key_at, push_cells};
 use btree::Tree;
 use builder_core::{Core, Table};
 use keybytes::{KeySpec, Pair};
-use replay::SharedLine;
 use prefix_spool::SpoolOfKind;
+use replay::SharedLine;
 use std::alloc::Global;
 use std::fmt::Write;
-use crate::timeline_svg::{Gain, GainKind};
 
 /// The most pairs of an index that are shown.
 const PAIRS_MAX: usize = 40;

@@ -1,10 +1,10 @@
 use crate::failure::Failure;
+use crate::timeline_svg::{Lane, LaneKind};
 use crate::txn_lane::TxnLane;
 use builder_core::{Dealing, INDEXES_MAX};
 use scan_range::RANGES_MAX;
 use script::{Command, NumberedCommand, Start};
 use std::alloc::Global;
-use crate::timeline_svg::{Lane, LaneKind};
 
 /// Which lanes the picture of a script has, from the left: a lane for each range of pages, one for the rows that are put in by
 /// transactions of their own, one for each label, one for the workers, and one for each index of a build.

@@ -1,6 +1,6 @@
 use crate::failure::Failure;
-use std::alloc::Global;
 use crate::timeline_svg::{Span, SpanKind};
+use std::alloc::Global;
 
 /// What lasts in the lanes: of each lane one span at most grows from row to row.
 #[derive(Drop)]

@@ -6,6 +6,7 @@ use crate::failure::Failure;
 use crate::lanes::Lanes;
 use crate::records::record_texts;
 use crate::story::Story;
+use crate::timeline_svg::{PictureError, ROWS_MAX, svg};
 use builder_core::{Parts, Table};
 use keybytes::Fault;
 use leased_core::LeasedCore;
@@ -14,7 +15,6 @@ use script::{NumberedCommand, Script, read_text};
 use std::alloc::Global;
 use std::io::{Read, Write};
 use std::marker::Brand;
-use crate::timeline_svg::{PictureError, ROWS_MAX, svg};
 
 /// Runs the script that the reader gives, and writes a picture of that to `out`, under that title. A script that can't be run, and one of more
 /// records than a picture has rows, is named on `err`, and then nothing is written to `out`. Answers the exit status.

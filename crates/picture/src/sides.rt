@@ -5,13 +5,13 @@ ghost use Rattle.std.specs.VecDeque.Iter.{deque_iter_rest};
 ghost use Rattle.keybytes.specs.Keys.{IsKeyOf};
 
 use crate::failure::Failure;
+use crate::timeline_svg::{Mark, MarkKind};
 use crate::words::key_at;
 use builder_core::{Core, Entry, INDEXES_MAX, Op, Table};
 use keybytes::KeySpec;
 use prefix_spool::SpoolOfKind;
 use std::alloc::Global;
 use std::collections::vec_deque::Iter;
-use crate::timeline_svg::{Mark, MarkKind};
 
 /// How many entries the side-file of each index has that aren't fed yet; none where no build runs.
 pub fn counts<T: Table>(alloc: Global, core: &Core<SpoolOfKind, T>) -> Result<Vec<usize>, Failure> {

@@ -5,12 +5,12 @@ ghost use Rattle.scan_range.specs.Ranges.{at_start};
 ghost use Rattle.picture.specs.Sights.{after_copy, side_in};
 
 use crate::failure::Failure;
+use crate::timeline_svg::{Side, SpanKind};
 use builder_core::Dealing;
 use keybytes::Rid;
 use scan_range::Ranges;
 use std::alloc::Global;
 use std::marker::Model;
-use crate::timeline_svg::{Side, SpanKind};
 use visibility::visible;
 
 /// How far a running build is: its ranges, and how many entries wait in the ring of each of its indexes. Contracts see the ranges.

@@ -5,13 +5,13 @@ use crate::failure::Failure;
 use crate::lanes::Lanes;
 use crate::record_text::RecordText;
 use crate::teller::Teller;
+use crate::timeline_svg::{Row, Timeline};
 use builder_core::{Core, Table};
 use keybytes::Fault;
+use prefix_spool::SpoolOfKind;
 use replay::Answer;
 use script::Command;
-use prefix_spool::SpoolOfKind;
 use std::alloc::Global;
-use crate::timeline_svg::{Row, Timeline};
 
 /// What was seen of a script's run so far: a row for each record.
 #[derive(Drop)]

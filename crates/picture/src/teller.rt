@@ -8,15 +8,15 @@ use crate::lasting::Lasting;
 use crate::record_text::RecordText;
 use crate::sides::{counts, mark_added};
 use crate::sight::Sight;
+use crate::timeline_svg::{Gain, Mark, MarkKind, Row, RowKind, Side, Timeline};
 use crate::words::refusal;
 use builder_core::{Core, Table};
 use keybytes::{Fault, Rid};
+use prefix_spool::SpoolOfKind;
 use replay::Answer;
 use script::Command;
-use prefix_spool::SpoolOfKind;
 use std::alloc::Global;
 use std::mem;
-use crate::timeline_svg::{Gain, Mark, MarkKind, Row, RowKind, Side, Timeline};
 
 /// What is known of a script's run, to tell its next record by.
 #[derive(Drop)]

@@ -5,14 +5,14 @@ use crate::failure::Failure;
 use crate::gains;
 use crate::sight::Sight;
 use crate::teller::Teller;
+use crate::timeline_svg::{MarkKind, Row, RowKind, SpanKind};
 use crate::words::refusal;
 use builder_core::{Core, Dealing, Table};
 use heap_log::Outcome;
 use keybytes::Rid;
-use replay::{Answer, SharedLine};
 use prefix_spool::SpoolOfKind;
+use replay::{Answer, SharedLine};
 use std::fmt::Write;
-use crate::timeline_svg::{MarkKind, Row, RowKind, SpanKind};
 
 impl Teller {
     /// Tells a command that was answered so.

@@ -1,5 +1,5 @@
-use keybytes::{Fault, Key, Pair, Rid};
 use crate::PrefixSpool;
+use keybytes::{Fault, Key, Pair, Rid};
 use run_spool::{PlainSpool, Spool};
 use spool_ledger::Account;
 

@@ -5,9 +5,8 @@ ghost use Rattle.run_spool.specs.PagedSpools.{new_spool as new_value};
 ghost use Rattle.run_spool.specs.Choices.{kinds_from};
 ghost use Rattle.prefix_spool.specs.Kinds.{inside, kind_of};
 
-use crate::SpoolOfKind;
+use crate::{PrefixSpool, SpoolOfKind};
 use keybytes::Fault;
-use crate::PrefixSpool;
 use run_spool::{PlainSpool, SpoolChoice, SpoolKind};
 use spool_ledger::Account;
 use std::alloc::Global;

@@ -4,10 +4,10 @@ ghost use Rattle.race.specs.Builds.{PlansBuild};
 use builder_core::Plan;
 use keybytes::{Fault, Schema};
 use leased_core::Leases;
+use prefix_spool::SpoolOfKind;
 use replay::{is_in_limits, key_specs};
 use run_spool::SpoolChoice;
 use script::Build;
-use prefix_spool::SpoolOfKind;
 use std::alloc::Global;
 
 /// How many turns a build of a race may take.

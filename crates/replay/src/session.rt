@@ -22,9 +22,9 @@ use builder_core::{Core, Event, Plan, Reply, Table};
 use heap_log::{Outcome, Verdicts};
 use keybytes::{Cell, Fault, KeySpec, Rid, Row};
 use leased_core::LeasedCore;
+use prefix_spool::SpoolOfKind;
 use run_spool::SpoolChoice;
 use script::{Command, Label, Spec, Start};
-use prefix_spool::SpoolOfKind;
 use std::alloc::Global;
 
 /// The transactions on a table that a script has named, the kind of spools that it has chosen, and how it has gone so far.
