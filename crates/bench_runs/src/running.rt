@@ -10,7 +10,7 @@ use crate::progress::Progress;
 use crate::record::{Figures, Record};
 use crate::rows::Rows;
 use crate::subject::Subject;
-use builder_core::{Core, Parts, Table};
+use builder_core::{Core, Parts, TableRings};
 use heap_table::PAGES_MAX;
 use prefix_spool::{CountedSpool, SpoolOfKind};
 use std::marker::Brand;
@@ -33,7 +33,7 @@ pub fn run(rt: &HostRuntime, options: &Options) -> Result<Figures, Failure> {
 }
 
 /// The same on a table under its name.
-fn run_on<T: Table>(rt: &HostRuntime, parts: Parts, options: &Options) -> Result<Figures, Failure>
+fn run_on<T: TableRings>(rt: &HostRuntime, parts: Parts, options: &Options) -> Result<Figures, Failure>
     requires pages { parts.pages ≡ T.pages }
     requires sides { parts.sides ≡ T.sides }
 {

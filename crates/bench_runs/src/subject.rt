@@ -6,7 +6,7 @@ use crate::look_ups::{first_difference, look_in};
 use crate::options::Options;
 use crate::phase::Phase;
 use crate::record::Record;
-use builder_core::{Core, Event, Reply, Table};
+use builder_core::{Core, Event, Reply, TableRings};
 use heap_log::Outcome;
 use keybytes::Fault;
 use rand::rngs::SmallRng;
@@ -29,7 +29,7 @@ pub trait Subject {
     fn compare(&mut self, index: usize) -> Result<Option<usize>, Fault>;
 }
 
-impl<T: Table> Subject for Core<CountedSpool<SpoolOfKind>, T> {
+impl<T: TableRings> Subject for Core<CountedSpool<SpoolOfKind>, T> {
     fn ask(&mut self, record: &mut Record, step: &'static str, event: Event) -> u64 {
         if record.failure.is_some() {
             return 0;

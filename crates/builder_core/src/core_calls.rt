@@ -8,13 +8,13 @@ ghost use Rattle.build_events.specs.declared.reply.Reply.{Reply};
 ghost use Rattle.live_lemmas.specs.FullSpools.{NoPageOnlyIfFull};
 ghost use Rattle.page_workers.specs.declared.turn.Turn.{Turn};
 
-use crate::{Core, Plan, Table};
+use crate::{Core, Plan, TableRings};
 use heap_log::Verdicts;
 use heap_table::{PageImage, Undone};
 use keybytes::{Fault, Rid, Row};
 use run_spool::Spool;
 
-impl<S: Spool, T: Table> Core<S, T> {
+impl<S: Spool, T: TableRings> Core<S, T> {
     /// The next transaction begins; answered with its number. [`Fault::Fenced`], [`Fault::TooManyTxns`].
     pub fn begin(&mut self) -> Result<u64, Fault>
         ensures { AnswersBy Reply.Begun self.old Event.Begin result self.new }

@@ -2,11 +2,11 @@
 ghost use Rattle.std.specs.Prelude.{◌≡◌, is_some, count_by};
 ghost use Rattle.build_events.specs.Workers.{unloaded_index};
 
-use crate::{Core, Table};
+use crate::{Core, TableRings};
 use building::Work;
 use run_spool::Spool;
 
-impl<S: Spool, T: Table> Core<S, T> {
+impl<S: Spool, T: TableRings> Core<S, T> {
     /// The lowest index of the build whose pairs are not in order.
     pub fn first_unloaded(&self) -> Option<usize>
         ensures { result ≡ unloaded_index self.now.work }

@@ -16,7 +16,7 @@ ghost use Rattle.live_lemmas.specs.FullSpools.{IfSpooling, NoPageOnlyIfFull, Wan
 ghost use Rattle.building.specs.Holding.{spools_in};
 ghost use Rattle.build_events.specs.Soundness.{BuildIsSound};
 
-use crate::{Building, Ends, Event, Live, Pair, Plan, ReadyIndex, Reply, Table};
+use crate::{Building, Ends, Event, Live, Pair, Plan, ReadyIndex, Reply, TableRings};
 use heap_table::{PageImage, Undone};
 use keybytes::{Fault, KeySpec, Rid, Row};
 use run_spool::Spool;
@@ -28,12 +28,12 @@ use std::marker::Model;
 /// index has the pairs of the rows that stand and that it takes.
 ///
 /// It is no `Drop`: whoever has it takes table and spools out again by [`Core::into_live`].
-pub struct Core<S: Spool, T: Table> {
+pub struct Core<S: Spool, T: TableRings> {
     pub(crate) live: Live<T>,
     pub(crate) building: Building<S, T>,
 }
 
-impl<S: Spool, T: Table> Model for Core<S, T> {
+impl<S: Spool, T: TableRings> Model for Core<S, T> {
     ghost use Rattle.build_events.specs.CoreState.{CoreState};
     ghost use Rattle.live_lemmas.specs.Builds.{core_state, StandsBeside};
 
@@ -44,7 +44,7 @@ impl<S: Spool, T: Table> Model for Core<S, T> {
     ghost invariant = { λ core. StandsBeside core.live core.building };
 }
 
-impl<S: Spool, T: Table> Core<S, T> {
+impl<S: Spool, T: TableRings> Core<S, T> {
     /// The table, with no build running: one that runs in it is abandoned. The next start takes the spools, one for each worker and
     /// index of its build: that of worker `w` and index `i` stands at `w` times the number of indexes, plus `i`.
     pub fn new(live: Live<T>, ends: Ends<T>, spools: Vec<S>) -> Core<S, T>

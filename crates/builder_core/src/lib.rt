@@ -6,9 +6,9 @@
 //! of build_events' `specs/Steps.antt`; a refused event changes nothing, unless memory or pages ran out in the midst of a build's work, which
 //! spoils that build, or memory while entries were applied to an index: those before then stay applied.
 //!
-//! [`Parts`] are a heap with the rings for all its builds, and [`Parts::open`] gives them the name of a [`Table`]: [`Live`] is then
+//! [`Parts`] are a heap with the rings for all its builds, and [`Parts::open`] gives them the name of some [`TableRings`]: [`Live`] is then
 //! the table with its ready indexes, and [`Ends`] are the ends of the rings that stand beside it. [`Core`] is both, with the build
-//! that may be running: [`Core::step`] answers one event, and [`run_events`] a list of them. [`Shut`] is a core whose name was taken
+//! that may be running: [`Core::step`] answers one event, and [`run_events`] a list of them. [`UnnamedCore`] is a core whose name was taken
 //! off, for callers that can't keep one. The pairs of a build are kept in spools that
 //! the caller makes, and gets back ended ([`Core::into_live`]). [`at_rest`] makes the pairs of a table that nobody writes.
 #![tactic(auto)]
@@ -17,14 +17,14 @@ mod core_calls;
 mod core_looks;
 mod core_steps;
 mod run;
-mod shut;
+mod unnamed_core;
 
 pub use build_events::{Event, Plan, Reply, Scan};
 pub use core_steps::Core;
 pub use live_table::{
     Building, Ends, Entry, INDEXES_MAX, Live, Op, Pair, Parts, ReadyIndex, ReadyIndexes, Switched,
-    Table, WORKERS_MAX, Worker, at_rest,
+    TableRings, WORKERS_MAX, Worker, at_rest,
 };
 pub use run::run_events;
 pub use scan_range::Dealing;
-pub use shut::Shut;
+pub use unnamed_core::UnnamedCore;

@@ -4,7 +4,7 @@ ghost use Rattle.build_events.specs.Headline.{RunsAsAtRest};
 ghost use Rattle.building.specs.Holding.{spools_in};
 ghost use Rattle.live_lemmas.specs.FullSpools.{WantedPage};
 
-use crate::{Core, Ends, Event, Live, Reply, Table};
+use crate::{Core, Ends, Event, Live, Reply, TableRings};
 use index_load::end_spools;
 use keybytes::Fault;
 use run_spool::Spool;
@@ -13,7 +13,7 @@ use std::alloc::Global;
 /// Does all events in turn, and answers each. Want of memory before the first event does none of them. Otherwise a
 /// build that runs in the table that is handed in, or still behind the last event, is abandoned. The spools come back ended, however it
 /// goes.
-pub fn run_events<S: Spool, T: Table>(
+pub fn run_events<S: Spool, T: TableRings>(
     alloc: Global,
     live: Live<T>,
     ends: Ends<T>,

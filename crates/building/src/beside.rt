@@ -18,7 +18,7 @@ use crate::sorted::sorted_index;
 use crate::work::Work;
 use catch_up::apply;
 use keybytes::Fault;
-use page_workers::{Intake, Table, Worker};
+use page_workers::{Intake, TableRings, Worker};
 use rtrb::Consumer;
 use run_spool::{Spool, are_empty};
 use side_file::Entry;
@@ -29,7 +29,7 @@ use std::mem::replace;
 /// What no lock keeps: the workers of the build that runs, its work, and the spools for its pairs.
 ///
 /// It is no `Drop`: whoever has it takes the spools out again, and they are ended then.
-pub struct Building<S: Spool, T: Table> {
+pub struct Building<S: Spool, T: TableRings> {
     /// The workers of the build, numbered from 0.
     pub(crate) workers: Vec<Worker<S>>,
     /// The intakes of the rings that have no worker, those behind the workers'.
@@ -44,7 +44,7 @@ pub struct Building<S: Spool, T: Table> {
     pub(crate) of: PhantomData<T>,
 }
 
-impl<S: Spool, T: Table> Model for Building<S, T> {
+impl<S: Spool, T: TableRings> Model for Building<S, T> {
     ghost use Rattle.building.specs.BuildingValue.{BuildingValue, intakes};
 
     ghost Value = { BuildingValue };
@@ -76,7 +76,7 @@ impl<S: Spool, T: Table> Model for Building<S, T> {
         × AreNumbered building.workers.items };
 }
 
-impl<S: Spool, T: Table> Building<S, T> {
+impl<S: Spool, T: TableRings> Building<S, T> {
     /// No build is at work, and the spools are left for the next one. Takes no memory.
     pub fn new(ends: Ends<T>, spools: Vec<S>) -> Building<S, T>
         ensures { result ≡ record {

@@ -2,20 +2,20 @@ ghost use Rattle.std.specs.Prelude.{◌≡◌, map};
 ghost use Rattle.page_workers.specs.TakeEnd.{take_end};
 ghost use Rattle.building.specs.Rings.{AreTakeEnds};
 
-use page_workers::{Intake, Table};
+use page_workers::{Intake, TableRings};
 use rtrb::Consumer;
 use side_file::Entry;
 use std::marker::{Model, PhantomData};
 
 /// The ends of a table's rings that take, between two builds.
 #[derive(Drop)]
-pub struct Ends<T: Table> {
+pub struct Ends<T: TableRings> {
     pub(crate) intakes: Vec<Intake>,
     pub(crate) side_ends: Vec<Consumer<Entry>>,
     pub(crate) of: PhantomData<T>,
 }
 
-impl<T: Table> Model for Ends<T> {
+impl<T: TableRings> Model for Ends<T> {
     ghost use Rattle.building.specs.BuildingValue.{EndsValue};
 
     ghost Value = { EndsValue };
@@ -29,7 +29,7 @@ impl<T: Table> Model for Ends<T> {
     ghost invariant = { λ ends. AreTakeEnds T.pages T.sides ends.intakes.items (map take_end ends.side_ends.items) };
 }
 
-impl<T: Table> Ends<T> {
+impl<T: TableRings> Ends<T> {
     /// The ends of a table's rings that take, of which no build has any.
     pub fn new(intakes: Vec<Intake>, side_ends: Vec<Consumer<Entry>>) -> Ends<T>
         requires { AreTakeEnds T.pages T.sides intakes.items (map take_end side_ends.items) }

@@ -12,7 +12,7 @@ use crate::returning::take_back;
 use crate::rings::laws_of;
 use crate::work::Work;
 use keybytes::Fault;
-use page_workers::{Intake, Table, Worker};
+use page_workers::{Intake, TableRings, Worker};
 use rtrb::Consumer;
 use run_spool::Spool;
 use side_file::Entry;
@@ -24,7 +24,7 @@ use std::marker::{Model, PhantomData};
 /// each with its ring and its spools, also those that were stopped, [`WithoutWorkers::gather`] makes a [`Building`] of it again. Where a thread let its
 /// worker go, or called [`Worker::hand_over`] or [`Worker::into_parts`], the build can only be given up: [`WithoutWorkers::give_up`] ends
 /// the spools that came back. Lost are then the ends of the rings that did not come back, and spools that their thread didn't hand out.
-pub struct WithoutWorkers<S: Spool, T: Table> {
+pub struct WithoutWorkers<S: Spool, T: TableRings> {
     idle: Vec<Intake>,
     side_ends: Vec<Consumer<Entry>>,
     /// Room for the spools of the workers, and none of them.
@@ -33,7 +33,7 @@ pub struct WithoutWorkers<S: Spool, T: Table> {
     of: PhantomData<T>,
 }
 
-impl<S: Spool, T: Table> Model for WithoutWorkers<S, T> {
+impl<S: Spool, T: TableRings> Model for WithoutWorkers<S, T> {
     ghost use Rattle.building.specs.BuildingValue.{BuildingValue};
 
     ghost Value = { BuildingValue };
@@ -58,7 +58,7 @@ impl<S: Spool, T: Table> Model for WithoutWorkers<S, T> {
         × ((16 - length rest.idle.items) * length rest.work.specs ≤ vec_capacity rest.spools) };
 }
 
-impl<S: Spool, T: Table> Building<S, T> {
+impl<S: Spool, T: TableRings> Building<S, T> {
     /// Lends the workers of the build, each to a thread of its own: there a worker takes what it sees in its ring, and closes its runs, without
     /// any lock. [`WithoutWorkers::gather`] takes them back. Takes no memory.
     pub fn lend(self) -> (Vec<Worker<S>>, WithoutWorkers<S, T>)
@@ -89,7 +89,7 @@ impl<S: Spool, T: Table> Building<S, T> {
     }
 }
 
-impl<S: Spool, T: Table> WithoutWorkers<S, T> {
+impl<S: Spool, T: TableRings> WithoutWorkers<S, T> {
     /// Takes the workers back, in the order in which they were lent. The fault of the lowest that was stopped spoils the build. Takes no memory.
     pub fn gather(self, workers: Vec<Worker<S>>) -> Building<S, T>
         requires { AreBack T.pages self workers.items }

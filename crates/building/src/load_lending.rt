@@ -9,7 +9,7 @@ use crate::beside::Building;
 use crate::loads::{install, take_home, take_loads};
 use index_load::IndexLoad;
 use keybytes::Fault;
-use page_workers::Table;
+use page_workers::TableRings;
 use run_spool::Spool;
 use std::alloc::Global;
 use std::marker::Model;
@@ -20,7 +20,7 @@ use std::snapshot::Snapshot;
 ///
 /// Meanwhile nothing can be asked of it. It is no `Drop`, so nobody lets it go unless he forgets it, with the ends of rings that it has. Once all loads
 /// are back, in the order in which they were lent, [`WithoutLoads::gather`] makes a [`Building`] of it again, also where some were refused.
-pub struct WithoutLoads<S: Spool, T: Table> {
+pub struct WithoutLoads<S: Spool, T: TableRings> {
     /// The same without its spools, and spoiled.
     building: Building<S, T>,
     /// Room for the spools of all loads, and none of them.
@@ -29,7 +29,7 @@ pub struct WithoutLoads<S: Spool, T: Table> {
     lent: Snapshot<Vec<IndexLoad<S>>>,
 }
 
-impl<S: Spool, T: Table> Model for WithoutLoads<S, T> {
+impl<S: Spool, T: TableRings> Model for WithoutLoads<S, T> {
     ghost use Rattle.building.specs.IndexLoads.{WithoutLoadsValue};
 
     ghost Value = { WithoutLoadsValue };
@@ -45,7 +45,7 @@ impl<S: Spool, T: Table> Model for WithoutLoads<S, T> {
         × HasRoomFor (length rest.was.value.spools) rest.room };
 }
 
-impl<S: Spool, T: Table> Building<S, T> {
+impl<S: Spool, T: TableRings> Building<S, T> {
     /// Lends the loads of all indexes, each with its spools, to threads: they can go on side by side, without the lock and without the build. None of
     /// the indexes is in order yet. [`WithoutLoads::gather`] takes them back. Where there is no memory for them the build is spoiled.
     pub fn lend_loads(
@@ -127,7 +127,7 @@ impl<S: Spool, T: Table> Building<S, T> {
     }
 }
 
-impl<S: Spool, T: Table> WithoutLoads<S, T> {
+impl<S: Spool, T: TableRings> WithoutLoads<S, T> {
     /// Takes the loads back, each run, in the order in which they were lent: each index has what its load made. Where some were refused, the fault of
     /// the first spoils the build, and some of the pairs may be lost. Takes no memory.
     pub fn gather(self, loads: Vec<IndexLoad<S>>) -> (Building<S, T>, Result<(), Fault>)

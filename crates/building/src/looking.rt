@@ -14,12 +14,12 @@ ghost use Rattle.building.specs.Working.{SideIsSeen};
 
 use crate::beside::Building;
 use crate::rings::{first_unsealed, laws_of, restart_all, waiting};
-use page_workers::{PagePutter, Table};
+use page_workers::{PagePutter, TableRings};
 use run_spool::Spool;
 use side_file::SideFile;
 use table_scan::empty_all;
 
-impl<S: Spool, T: Table> Building<S, T> {
+impl<S: Spool, T: TableRings> Building<S, T> {
     /// Does nothing: its clauses tell what holds between two calls.
     pub fn laws(&self)
         ensures ends { AreTakeEnds T.pages T.sides (intakes self.now.workers self.now.idle) self.now.sides }

@@ -8,7 +8,7 @@ ghost use Rattle.building.specs.BuildingValue.{intakes};
 ghost use Rattle.building.specs.Keeping.{HasItsRing, KeepsLaws};
 ghost use Rattle.building.specs.Rings.{put_rings, take_rings, all_sent, all_free, begun_on, AreLooked, AreSealed, FirstAreSealed, HasSeenAll, IsUnsealed, IsSealed};
 
-use page_workers::{Intake, PagePutter, Table, Worker};
+use page_workers::{Intake, PagePutter, TableRings, Worker};
 use run_spool::Spool;
 
 /// Empties every ring, and lets its intake begin a build.
@@ -26,7 +26,7 @@ pub(crate) fn restart_all(pages: &mut Vec<PagePutter>, intakes: &mut Vec<Intake>
 }
 
 /// How many copies wait for a worker. Both ends of its ring then know all that there is to know of it.
-pub(crate) fn waiting<S: Spool, T: Table>(
+pub(crate) fn waiting<S: Spool, T: TableRings>(
     pages: &mut Vec<PagePutter>,
     workers: &mut Vec<Worker<S>>,
     worker: usize,
@@ -45,7 +45,7 @@ pub(crate) fn waiting<S: Spool, T: Table>(
 }
 
 /// Whether a worker has a copy in its ring, or a run open.
-fn is_unsealed<S: Spool, T: Table>(
+fn is_unsealed<S: Spool, T: TableRings>(
     pages: &mut Vec<PagePutter>,
     workers: &mut Vec<Worker<S>>,
     worker: usize,
@@ -64,7 +64,7 @@ fn is_unsealed<S: Spool, T: Table>(
 }
 
 /// The lowest worker that has a copy in its ring, or a run open.
-pub(crate) fn first_unsealed<S: Spool, T: Table>(
+pub(crate) fn first_unsealed<S: Spool, T: TableRings>(
     pages: &mut Vec<PagePutter>,
     workers: &mut Vec<Worker<S>>,
 ) -> Option<usize>
@@ -87,7 +87,7 @@ pub(crate) fn first_unsealed<S: Spool, T: Table>(
 }
 
 /// Does nothing: its clause tells what each worker of the table keeps.
-pub(crate) fn laws_of<S: Spool, T: Table>(workers: &[Worker<S>])
+pub(crate) fn laws_of<S: Spool, T: TableRings>(workers: &[Worker<S>])
     requires { All (HasItsRing T.pages) workers.now }
     ensures { All (KeepsLaws T.pages) workers.now }
 {

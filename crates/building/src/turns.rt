@@ -5,10 +5,10 @@ ghost use Rattle.building.specs.Turns.{WorkerDid, WorkerLooked, WorkerStopped, s
 use crate::Building;
 use crate::work::Work;
 use keybytes::Fault;
-use page_workers::{Table, Turn};
+use page_workers::{TableRings, Turn};
 use run_spool::Spool;
 
-impl<S: Spool, T: Table> Building<S, T> {
+impl<S: Spool, T: TableRings> Building<S, T> {
     /// Lets a worker look into its ring, and answers how many copies it has seen there: a digest or a seal takes what was seen. It needs no
     /// lock; the table may put more at any time.
     pub fn look(&mut self, worker: usize) -> usize

@@ -12,7 +12,7 @@ use Rattle.log_prefixes.proofs.known.Known.TheSendSync as known
 use Rattle.log_prefixes.proofs.keeper.Keeper.TheSendSync as keeper
 use Rattle.crew.proofs.progress.Progress.TheSendSync as progress
 use Rattle.log_prefixes.specs.declared.named.Named as named
-use Rattle.page_workers.specs.declared.table.Table as table
+use Rattle.page_workers.specs.declared.table_rings.TableRings as table
 use Rattle.live_table.proofs.Crosses.{live_send}
 use Rattle.crew.specs.declared.table.opened.Opened as opened
 use Rattle.crew.specs.contracts.locked.Locked as Locked

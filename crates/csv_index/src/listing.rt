@@ -5,13 +5,13 @@ use crate::look_up::look_up;
 use crate::row_printer::RowPrinter;
 use crate::search::Search;
 use crate::table::Failure;
-use builder_core::{Live, Table};
+use builder_core::{Live, TableRings};
 use heap_log::Outcome;
 use keybytes::Rid;
 use std::io::Write;
 
 /// Lists the rows that the first index is asked for.
-pub fn list<T: Table, W: Write>(
+pub fn list<T: TableRings, W: Write>(
     facts: Facts<'_, '_>,
     live: &mut Live<T>,
     verdicts: &[Outcome],
@@ -25,7 +25,7 @@ pub fn list<T: Table, W: Write>(
 }
 
 /// The places of the rows, as the first index has them.
-fn found<T: Table>(
+fn found<T: TableRings>(
     facts: Facts<'_, '_>,
     live: &Live<T>,
     verdicts: &[Outcome],
@@ -41,7 +41,7 @@ fn found<T: Table>(
 }
 
 /// Prints the rows at these places.
-fn print_rows<T: Table, W: Write>(
+fn print_rows<T: TableRings, W: Write>(
     facts: Facts<'_, '_>,
     live: &mut Live<T>,
     rids: &[Rid],
@@ -51,7 +51,7 @@ fn print_rows<T: Table, W: Write>(
     print_each(facts, live, rids, &mut printer)
 }
 
-fn print_each<T: Table, W: Write + Drop>(
+fn print_each<T: TableRings, W: Write + Drop>(
     facts: Facts<'_, '_>,
     live: &mut Live<T>,
     rids: &[Rid],

@@ -3,7 +3,7 @@
 use crate::facts::Facts;
 use crate::row_printer::RowPrinter;
 use crate::table::Failure;
-use builder_core::{Live, Table};
+use builder_core::{Live, TableRings};
 use command_line::IndexWord;
 use heap_log::Outcome;
 use keybytes::{Cell, Fault, KeySpec, Rid};
@@ -12,7 +12,7 @@ use std::io::{self, Write};
 use tree_nodes::{FAN_MAX, LEAF_MAX};
 
 /// Prints how much was done: what was read, scanned and loaded, and how many pages the spools of each index had leased at most.
-pub fn print_counts<T: Table, E: Write>(
+pub fn print_counts<T: TableRings, E: Write>(
     facts: Facts<'_, '_>,
     live: &Live<T>,
     spools: &[CountedSpool<SpoolOfKind>],
@@ -49,7 +49,7 @@ fn leased_at_most(spools: &[CountedSpool<SpoolOfKind>], place: usize, indexes: u
 }
 
 /// Prints a line for each index, and answers whether all are ready.
-pub fn print_verdicts<T: Table, W: Write>(
+pub fn print_verdicts<T: TableRings, W: Write>(
     facts: Facts<'_, '_>,
     live: &mut Live<T>,
     verdicts: &[Outcome],
@@ -67,7 +67,7 @@ pub fn print_verdicts<T: Table, W: Write>(
 }
 
 /// Prints the line of the index at that place among those asked for, and answers whether it is ready.
-fn print_verdict<T: Table, W: Write>(
+fn print_verdict<T: TableRings, W: Write>(
     facts: Facts<'_, '_>,
     live: &mut Live<T>,
     place: usize,
@@ -92,7 +92,7 @@ fn print_verdict<T: Table, W: Write>(
     }
 }
 
-fn print_ready<T: Table, W: Write>(
+fn print_ready<T: TableRings, W: Write>(
     live: &Live<T>,
     word: IndexWord<'_>,
     number: usize,

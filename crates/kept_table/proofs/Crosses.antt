@@ -23,17 +23,17 @@ use Rattle.kept_table.proofs.decided.Decided.TheSendSync as decided
 use Rattle.page_workers.specs.contracts.intake.Intake as Intake
 use Rattle.page_workers.specs.contracts.worker.Worker as Worker
 use Rattle.building.specs.contracts.work.Work as Work
-use Rattle.building.specs.contracts.shut_building.ShutBuilding as ShutBuilding
-use Rattle.building.specs.contracts.shut_building.ShutBuilding.TheInside as Ends
-use Rattle.live_table.specs.contracts.shut_live.ShutLive as ShutLive
-use Rattle.builder_core.specs.contracts.shut.Shut as Shut
-use Rattle.builder_core.specs.contracts.shut.Shut.TheInside as Halves
-use Rattle.leased_core.specs.contracts.shut_leased.ShutLeased as ShutLeased
-use Rattle.kept_table.specs.contracts.shut_counted.ShutCounted as ShutCounted
+use Rattle.building.specs.contracts.unnamed_building.UnnamedBuilding as UnnamedBuilding
+use Rattle.building.specs.contracts.unnamed_building.UnnamedBuilding.TheInside as Ends
+use Rattle.live_table.specs.contracts.unnamed_live.UnnamedLive as UnnamedLive
+use Rattle.builder_core.specs.contracts.unnamed_core.UnnamedCore as UnnamedCore
+use Rattle.builder_core.specs.contracts.unnamed_core.UnnamedCore.TheInside as Halves
+use Rattle.leased_core.specs.contracts.unnamed_leased.UnnamedLeased as UnnamedLeased
+use Rattle.kept_table.specs.contracts.unnamed_counted.UnnamedCounted as UnnamedCounted
 use Rattle.kept_table.specs.contracts.kept.Kept as Kept
 
 -- the table, with its ready indexes
-live_send : IsSend ShutLive.the_row
+live_send : IsSend UnnamedLive.the_row
 live_send = search (heap.the_send, ready_send, scan.the_send, putter.the_send, side.the_send, sendable, crosses) depth 20
 
 -- what a build has made of its indexes
@@ -41,7 +41,7 @@ work_send : IsSend Work.the_row
 work_send = search (spec.the_send, fault.the_send, tree_send, sendable, crosses) depth 60
 
 -- its workers, the ends of its rings and its spools, where a spool may go to another thread
-building_send : (S : RattleType) (g : spool.Ghosts S.Denot) → IsSend S → IsSend (ShutBuilding.the_row S g)
+building_send : (S : RattleType) (g : spool.Ghosts S.Denot) → IsSend S → IsSend (UnnamedBuilding.the_row S g)
 building_send S g s =
     view_send (Ends.the_row S g) _ _ _ _
     (recorded_send (Ends.the_field S g).row _ _ (Ends.the_type S g).to_one
@@ -57,17 +57,17 @@ building_send S g s =
     )))
 
 -- the core, of the table and its build
-core_send : (S : RattleType) (g : spool.Ghosts S.Denot) → IsSend S → IsSend (Shut.the_row S g)
+core_send : (S : RattleType) (g : spool.Ghosts S.Denot) → IsSend S → IsSend (UnnamedCore.the_row S g)
 core_send S g s =
     view_send (Halves.the_row S g) _ _ _ _
     (recorded_send (Halves.the_field S g).row _ _ (Halves.the_type S g).to_one
     (struct_send (shape (Halves.the_type S g)) (live_send, (building_send S g s, tt))))
 
 -- with the pool that its spools lease from, and the count of its pages
-leased_send : IsSend ShutLeased.the_row
+leased_send : IsSend UnnamedLeased.the_row
 leased_send = search (core_send, spools.the_send, leases.the_send, sendable, crosses) depth 20
 
-counted_send : IsSend ShutCounted.the_row
+counted_send : IsSend UnnamedCounted.the_row
 counted_send = search (leased_send, sendable) depth 20
 
 pub kept_send : IsSend Kept.the_row

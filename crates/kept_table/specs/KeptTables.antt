@@ -4,7 +4,7 @@ use Rattle.keybytes.specs.Keys.{KeySpecValue}
 use Rattle.heap_log.specs.declared.outcome.Outcome.{Outcome}
 use Rattle.heap_table.specs.HeapState.{HeapState, empty_heap}
 use Rattle.build_events.specs.CoreState.{CoreState, opening}
-use Rattle.live_lemmas.specs.Builds.{ShutValue}
+use Rattle.live_lemmas.specs.Builds.{UnnamedValue}
 use Rattle.leased_core.specs.Leasing.{no_spools}
 
 -- what a switch decided: what makes the keys of each index of its build, and what became of it
@@ -22,6 +22,6 @@ abbrev pub new_table : HeapState → CoreState
 new_table heap = opening (record { heap = heap; ready = []; builds = 0; build = None }) no_spools
 
 -- the table in its place; one without columns where there is none, as is so for the time of a call alone
-abbrev pub table_in : Option ShutValue → CoreState
+abbrev pub table_in : Option UnnamedValue → CoreState
 table_in None = new_table (empty_heap [] 0 0)
 table_in (Some table) = table.core

@@ -11,8 +11,8 @@ use crate::counted::Counted;
 use crate::decided::Decided;
 use crate::kept::taken;
 use crate::progress::indexes_of;
-use crate::shut_counted::ShutCounted;
-use builder_core::{Event, Reply, Table};
+use crate::unnamed_counted::UnnamedCounted;
+use builder_core::{Event, Reply, TableRings};
 use keybytes::Fault;
 use std::marker::Brand;
 
@@ -39,11 +39,11 @@ impl Kept {
 }
 
 /// The table under a name, for a piece of its build.
-fn advanced<T: Table>(
-    table: ShutCounted,
+fn advanced<T: TableRings>(
+    table: UnnamedCounted,
     decided: &mut Option<Decided>,
     most: usize,
-) -> (ShutCounted, Result<bool, Fault>)
+) -> (UnnamedCounted, Result<bool, Fault>)
     requires rings { table.pages ≡ T.pages }
     requires sides { table.sides ≡ T.sides }
     ensures ready { IfOk result.1 (λ ready. ready ≡ true → IsSomeAnd decided.new (λ told. WorksToTheEnd most table.core told result.0.core)) }
@@ -53,11 +53,11 @@ fn advanced<T: Table>(
 {
     let mut named = table.open::<T>();
     let ready = advance(&mut named, decided, most);
-    (named.shut(), ready)
+    (named.unname(), ready)
 }
 
 /// Does the next piece, and answers whether it was the switch.
-fn advance<T: Table>(
+fn advance<T: TableRings>(
     counted: &mut Counted<T>,
     decided: &mut Option<Decided>,
     most: usize,
@@ -76,7 +76,7 @@ fn advance<T: Table>(
 
 /// Copies a page, or puts the pairs of an index in order or closes the runs of a worker, and answers whether there was something of that to do;
 /// there isn't where no build runs.
-fn prepare<T: Table>(counted: &mut Counted<T>) -> Result<bool, Fault>
+fn prepare<T: TableRings>(counted: &mut Counted<T>) -> Result<bool, Fault>
     ensures done { IfOk result (λ more. more ≡ true → (most : ℕ) → DoesPiece most counted.old counted.new) }
     ensures prepared { IfOk result (λ more. more ≡ false → IsPrepared counted.old × (counted.new ≡ counted.old)) }
     ensures refused { IfErr result (λ fault. (most : ℕ) → StopsPiece most counted.old fault counted.new) }
@@ -97,7 +97,7 @@ fn prepare<T: Table>(counted: &mut Counted<T>) -> Result<bool, Fault>
 }
 
 /// The workers of the build that runs, and its lowest range that has a page left; none of that where none runs.
-fn build_counts<T: Table>(counted: &Counted<T>) -> Option<(usize, Option<usize>)>
+fn build_counts<T: TableRings>(counted: &Counted<T>) -> Option<(usize, Option<usize>)>
     ensures none { result ≡ None → counted.now.live.build ≡ None }
     ensures workers { IfSome result (λ counts. HasWorkers counts.0 counted.now) }
     ensures range { IfSome result (λ counts. HasOpenRange counts.1 counted.now) }
@@ -110,7 +110,7 @@ fn build_counts<T: Table>(counted: &Counted<T>) -> Option<(usize, Option<usize>)
 
 /// Applies entries of each index, tries the switch, and answers whether that decided. A switch that is behind, since more entries are left than it
 /// applies itself, is tried again with the next piece. So a build needn't wait until writers leave nothing to apply.
-fn finish<T: Table>(
+fn finish<T: TableRings>(
     counted: &mut Counted<T>,
     decided: &mut Option<Decided>,
     most: usize,
@@ -137,7 +137,11 @@ fn finish<T: Table>(
 }
 
 /// Copies the next page of the range for the worker, unless it has as many copies as it may, and lets it make the pairs of one copy.
-fn copy_page<T: Table>(counted: &mut Counted<T>, range: usize, worker: usize) -> Result<(), Fault>
+fn copy_page<T: TableRings>(
+    counted: &mut Counted<T>,
+    range: usize,
+    worker: usize,
+) -> Result<(), Fault>
     requires page { HasPageIn range counted.old }
     requires worker { HasWorker worker counted.old }
     ensures done { OnOk result (DoesCopy range worker counted.old counted.new) }
@@ -148,7 +152,7 @@ fn copy_page<T: Table>(counted: &mut Counted<T>, range: usize, worker: usize) ->
 }
 
 /// Copies the next page of the range for the worker, unless it has as many copies as it may.
-fn scan<T: Table>(counted: &mut Counted<T>, range: usize, worker: usize) -> Result<(), Fault>
+fn scan<T: TableRings>(counted: &mut Counted<T>, range: usize, worker: usize) -> Result<(), Fault>
     requires page { HasPageIn range counted.old }
     requires worker { HasWorker worker counted.old }
     ensures done { OnOk result (ScansIfRoom range worker counted.old counted.new) }
@@ -164,7 +168,7 @@ fn scan<T: Table>(counted: &mut Counted<T>, range: usize, worker: usize) -> Resu
 }
 
 /// Lets the worker make the pairs of one copy.
-fn digest<T: Table>(counted: &mut Counted<T>, worker: usize) -> Result<(), Fault>
+fn digest<T: TableRings>(counted: &mut Counted<T>, worker: usize) -> Result<(), Fault>
     requires { HasWorker worker counted.old }
     ensures done { OnOk result (DoesAll (Event.Digest worker ∷ []) counted.old counted.new) }
     ensures refused { IfErr result (λ fault. StopsWork (Event.Digest worker ∷ []) counted.old fault counted.new) }
@@ -176,7 +180,7 @@ fn digest<T: Table>(counted: &mut Counted<T>, worker: usize) -> Result<(), Fault
 }
 
 /// Puts the pairs of the index in order, or lets the lowest worker close its runs that has not.
-fn put_in_order<T: Table>(counted: &mut Counted<T>, index: usize) -> Result<(), Fault>
+fn put_in_order<T: TableRings>(counted: &mut Counted<T>, index: usize) -> Result<(), Fault>
     requires index { HasIndex index counted.old }
     requires scanned { HasOpenRange None counted.old }
     ensures done { OnOk result (PutsInOrder index counted.old counted.new) }
@@ -189,7 +193,7 @@ fn put_in_order<T: Table>(counted: &mut Counted<T>, index: usize) -> Result<(), 
 }
 
 /// Puts the pairs of the index in order, or answers the lowest worker that has not closed its runs.
-fn load<T: Table>(counted: &mut Counted<T>, index: usize) -> Result<Option<usize>, Fault>
+fn load<T: TableRings>(counted: &mut Counted<T>, index: usize) -> Result<Option<usize>, Fault>
     requires index { HasIndex index counted.old }
     requires scanned { HasOpenRange None counted.old }
     ensures done { IfOk result (λ unsealed. unsealed ≡ None → DoesAll (Event.Load index ∷ []) counted.old counted.new) }
@@ -208,7 +212,7 @@ fn load<T: Table>(counted: &mut Counted<T>, index: usize) -> Result<Option<usize
 }
 
 /// Lets the worker close its runs.
-fn seal<T: Table>(counted: &mut Counted<T>, worker: usize) -> Result<(), Fault>
+fn seal<T: TableRings>(counted: &mut Counted<T>, worker: usize) -> Result<(), Fault>
     requires { HasWorker worker counted.old }
     ensures done { OnOk result (DoesAll (Event.Seal worker ∷ []) counted.old counted.new) }
     ensures refused { IfErr result (λ fault. StopsWork (Event.Seal worker ∷ []) counted.old fault counted.new) }
@@ -221,7 +225,7 @@ fn seal<T: Table>(counted: &mut Counted<T>, worker: usize) -> Result<(), Fault>
 
 /// Applies the next entries of each index of the build that runs, at most so many of each. Each has its turn, so that none is left behind while writers
 /// go on.
-fn catch_up<T: Table>(counted: &mut Counted<T>, most: usize) -> Result<(), Fault>
+fn catch_up<T: TableRings>(counted: &mut Counted<T>, most: usize) -> Result<(), Fault>
     requires { IsPrepared counted.old }
     ensures done { OnOk result (DoesAll (turns most (index_count counted.old.live.build)) counted.old counted.new) }
     ensures prepared { OnOk result (IsPrepared counted.new) }
@@ -235,7 +239,11 @@ fn catch_up<T: Table>(counted: &mut Counted<T>, most: usize) -> Result<(), Fault
 }
 
 /// Applies the next entries of the index, at most so many.
-fn catch_up_one<T: Table>(counted: &mut Counted<T>, index: usize, most: usize) -> Result<(), Fault>
+fn catch_up_one<T: TableRings>(
+    counted: &mut Counted<T>,
+    index: usize,
+    most: usize,
+) -> Result<(), Fault>
     requires { HasLoaded index counted.old }
     ensures done { OnOk result (DoesAll (Event.Feed index most ∷ Event.Apply index most ∷ []) counted.old counted.new) }
     ensures refused { IfErr result (λ fault. StopsWork (Event.Feed index most ∷ Event.Apply index most ∷ []) counted.old fault counted.new) }
@@ -246,7 +254,7 @@ fn catch_up_one<T: Table>(counted: &mut Counted<T>, index: usize, most: usize) -
 }
 
 /// Does one event of the build's work that waits for no other one.
-fn work<T: Table>(counted: &mut Counted<T>, event: Event) -> Result<Reply, Fault>
+fn work<T: TableRings>(counted: &mut Counted<T>, event: Event) -> Result<Reply, Fault>
     requires work { IsOfWork event }
     requires there { IsThere event counted.old }
     requires waits { (fault : Fault) → IsPutOff event fault → ⊥ }
@@ -257,7 +265,7 @@ fn work<T: Table>(counted: &mut Counted<T>, event: Event) -> Result<Reply, Fault
 }
 
 /// Does one event of the build's work, unless it has to wait for another.
-fn attempt<T: Table>(counted: &mut Counted<T>, event: Event) -> Result<Reply, Fault>
+fn attempt<T: TableRings>(counted: &mut Counted<T>, event: Event) -> Result<Reply, Fault>
     requires work { IsOfWork event }
     requires there { IsThere event counted.old }
     ensures done { OnOk result (DoesAll (event ∷ []) counted.old counted.new) }

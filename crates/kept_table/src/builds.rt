@@ -9,8 +9,8 @@ use crate::Kept;
 use crate::counted::Counted;
 use crate::decided::Decided;
 use crate::kept::taken;
-use crate::shut_counted::ShutCounted;
-use builder_core::{Event, INDEXES_MAX, Plan, Reply, Table, WORKERS_MAX};
+use crate::unnamed_counted::UnnamedCounted;
+use builder_core::{Event, INDEXES_MAX, Plan, Reply, TableRings, WORKERS_MAX};
 use keybytes::{Fault, KeySpec, copied_specs};
 use run_spool::SpoolChoice;
 use std::marker::Brand;
@@ -59,12 +59,12 @@ impl Kept {
 }
 
 /// The table under a name, for a start.
-fn started<T: Table>(
-    table: ShutCounted,
+fn started<T: TableRings>(
+    table: UnnamedCounted,
     choice: SpoolChoice,
     quota: usize,
     plan: Plan,
-) -> (ShutCounted, Result<u32, Fault>)
+) -> (UnnamedCounted, Result<u32, Fault>)
     requires pages { table.pages ≡ T.pages }
     requires sides { table.sides ≡ T.sides }
     ensures started { IfOk result.1 (λ pages. StartsOver quota plan table.core (Reply.Started pages) result.0.core) }
@@ -74,11 +74,11 @@ fn started<T: Table>(
 {
     let mut named = table.open::<T>();
     let started = start_in_limits(&mut named, choice, quota, plan);
-    (named.shut(), started)
+    (named.unname(), started)
 }
 
 /// Starts a build, unless one runs or there would be too many spools, or pages for one of them.
-fn start_in_limits<T: Table>(
+fn start_in_limits<T: TableRings>(
     counted: &mut Counted<T>,
     choice: SpoolChoice,
     quota: usize,
@@ -99,10 +99,10 @@ fn start_in_limits<T: Table>(
 }
 
 /// The table under a name, for a switch.
-fn switched<T: Table>(
-    table: ShutCounted,
+fn switched<T: TableRings>(
+    table: UnnamedCounted,
     decided: &mut Option<Decided>,
-) -> (ShutCounted, Result<usize, Fault>)
+) -> (UnnamedCounted, Result<usize, Fault>)
     requires pages { table.pages ≡ T.pages }
     requires sides { table.sides ≡ T.sides }
     ensures decided { IfOk result.1 (λ number. IsSomeAnd decided.new (λ told. Decides table.core number told result.0.core)) }
@@ -111,11 +111,11 @@ fn switched<T: Table>(
 {
     let mut named = table.open::<T>();
     let number = decide(&mut named, decided);
-    (named.shut(), number)
+    (named.unname(), number)
 }
 
 /// Tries the switch, and notes what it decides. What makes the keys of the build's indexes is copied before.
-pub(crate) fn decide<T: Table>(
+pub(crate) fn decide<T: TableRings>(
     counted: &mut Counted<T>,
     decided: &mut Option<Decided>,
 ) -> Result<usize, Fault>
@@ -130,7 +130,7 @@ pub(crate) fn decide<T: Table>(
 }
 
 /// Copies of what makes the keys of the indexes that are being built.
-fn build_specs<T: Table>(counted: &Counted<T>) -> Result<Vec<KeySpec>, Fault>
+fn build_specs<T: TableRings>(counted: &Counted<T>) -> Result<Vec<KeySpec>, Fault>
     ensures ok { IfOk result (λ specs. IfSome counted.now.live.build (λ b. specs.items ≡ b.specs)) }
     ensures memory { IfErr result (λ fault. fault ≡ Fault.Memory) }
     ensures building { OnErr result (is_some counted.now.live.build ≡ true) }
@@ -143,7 +143,7 @@ fn build_specs<T: Table>(counted: &Counted<T>) -> Result<Vec<KeySpec>, Fault>
 }
 
 /// The table under a name, for an abandon.
-fn abandoned<T: Table>(table: ShutCounted) -> (ShutCounted, Result<(), Fault>)
+fn abandoned<T: TableRings>(table: UnnamedCounted) -> (UnnamedCounted, Result<(), Fault>)
     requires pages { table.pages ≡ T.pages }
     requires sides { table.sides ≡ T.sides }
     ensures abandoned { OnOk result.1 (EndsBuild Event.Abandon Reply.Abandoned table.core result.0.core) }
@@ -151,5 +151,5 @@ fn abandoned<T: Table>(table: ShutCounted) -> (ShutCounted, Result<(), Fault>)
 {
     let mut named = table.open::<T>();
     let abandoned = named.abandon();
-    (named.shut(), abandoned)
+    (named.unname(), abandoned)
 }

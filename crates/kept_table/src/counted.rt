@@ -12,7 +12,7 @@ ghost use Rattle.kept_table.specs.KeptTables.{new_table};
 ghost use Rattle.kept_table.specs.Progresses.{pages_copied, pages_read};
 
 use crate::page_count::PageCount;
-use builder_core::{Core, Event, Parts, Plan, Reply, Table};
+use builder_core::{Core, Event, Parts, Plan, Reply, TableRings};
 use heap_log::Verdicts;
 use keybytes::{Fault, Rid, Row};
 use leased_core::LeasedCore;
@@ -24,12 +24,12 @@ use std::marker::Model;
 /// A [`LeasedCore`] that counts the pages of its build. Contracts see the state of the core.
 ///
 /// It is no `Drop`: [`Counted::close`] gives the pages of the spools back.
-pub(crate) struct Counted<T: Table> {
+pub(crate) struct Counted<T: TableRings> {
     pub(crate) leased: LeasedCore<T>,
     pub(crate) pages: PageCount,
 }
 
-impl<T: Table> Model for Counted<T> {
+impl<T: TableRings> Model for Counted<T> {
     ghost use Rattle.build_events.specs.CoreState.{CoreState};
     ghost use Rattle.kept_table.specs.Counts.{Counts, HasLaws};
 
@@ -40,7 +40,7 @@ impl<T: Table> Model for Counted<T> {
     ghost invariant = { λ counted. Counts counted.pages counted.leased × HasLaws counted.leased };
 }
 
-impl<T: Table> Counted<T> {
+impl<T: TableRings> Counted<T> {
     /// A table with no build running.
     pub(crate) fn new(alloc: Global, parts: Parts) -> Counted<T>
         requires pages { parts.pages ≡ T.pages }

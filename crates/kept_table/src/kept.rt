@@ -5,8 +5,8 @@ ghost use Rattle.kept_table.specs.KeptTables.{new_table};
 
 use crate::counted::Counted;
 use crate::decided::Decided;
-use crate::shut_counted::ShutCounted;
-use builder_core::{Event, Parts, Reply, Table};
+use crate::unnamed_counted::UnnamedCounted;
+use builder_core::{Event, Parts, Reply, TableRings};
 use heap_table::Heap;
 use keybytes::Fault;
 use std::alloc::Global;
@@ -17,7 +17,7 @@ use std::marker::{Brand, Model};
 /// To let it go lets the table go, and with it the pool and the spools of a build that runs: [`Kept::close`] counts their pages.
 pub struct Kept {
     /// It is there but for the time that a call works on it.
-    pub(crate) table: Option<ShutCounted>,
+    pub(crate) table: Option<UnnamedCounted>,
     pub(crate) decided: Option<Decided>,
 }
 
@@ -82,7 +82,7 @@ impl Kept {
 }
 
 /// Takes the table out of its place, for a call to work on.
-pub(crate) fn taken(table: &mut Option<ShutCounted>) -> ShutCounted
+pub(crate) fn taken(table: &mut Option<UnnamedCounted>) -> UnnamedCounted
     requires { is_some table.old ≡ true }
     ensures { table.old ≡ Some result }
 {
@@ -93,16 +93,16 @@ pub(crate) fn taken(table: &mut Option<ShutCounted>) -> ShutCounted
 }
 
 /// The table under a name, for as long as it takes to make it.
-fn opened<T: Table>(alloc: Global, parts: Parts) -> ShutCounted
+fn opened<T: TableRings>(alloc: Global, parts: Parts) -> UnnamedCounted
     requires pages { parts.pages ≡ T.pages }
     requires sides { parts.sides ≡ T.sides }
     ensures { result.core ≡ new_table parts.heap }
 {
-    Counted::<T>::new(alloc, parts).shut()
+    Counted::<T>::new(alloc, parts).unname()
 }
 
 /// The table under a name, to be closed.
-fn closed<T: Table>(table: ShutCounted) -> usize
+fn closed<T: TableRings>(table: UnnamedCounted) -> usize
     requires pages { table.pages ≡ T.pages }
     requires sides { table.sides ≡ T.sides }
     ensures { result ≡ 0 }
@@ -111,7 +111,7 @@ fn closed<T: Table>(table: ShutCounted) -> usize
 }
 
 /// The table under a name, for one event.
-fn stepped<T: Table>(table: ShutCounted, event: Event) -> (ShutCounted, Reply)
+fn stepped<T: TableRings>(table: UnnamedCounted, event: Event) -> (UnnamedCounted, Reply)
     requires pages { table.pages ≡ T.pages }
     requires sides { table.sides ≡ T.sides }
     requires keeps { KeepsBuild event }
@@ -120,5 +120,5 @@ fn stepped<T: Table>(table: ShutCounted, event: Event) -> (ShutCounted, Reply)
 {
     let mut named = table.open::<T>();
     let reply = named.step(event);
-    (named.shut(), reply)
+    (named.unname(), reply)
 }

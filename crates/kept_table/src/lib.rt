@@ -15,7 +15,7 @@ mod lookups;
 mod page_count;
 mod progress;
 mod reads;
-mod shut_counted;
+mod unnamed_counted;
 
 pub use kept::Kept;
 pub use progress::Progress;

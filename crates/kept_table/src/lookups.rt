@@ -10,9 +10,9 @@ ghost use Rattle.kept_table.specs.Lookups.{first_columns, keyed_by, spec_refusal
 
 use crate::Kept;
 use crate::kept::taken;
-use crate::shut_counted::ShutCounted;
+use crate::unnamed_counted::UnnamedCounted;
 use btree::Tree;
-use builder_core::{Core, Pair, Table};
+use builder_core::{Core, Pair, TableRings};
 use keybytes::{Fault, Key, KeyCol, KeySpec, Rid, Row, Schema};
 use prefix_spool::SpoolOfKind;
 use std::alloc::Global;
@@ -64,7 +64,7 @@ impl Kept {
 }
 
 /// The table under a name, for the number of its ready indexes.
-fn ready_of<T: Table>(table: ShutCounted) -> (ShutCounted, usize)
+fn ready_of<T: TableRings>(table: UnnamedCounted) -> (UnnamedCounted, usize)
     requires pages { table.pages ≡ T.pages }
     requires sides { table.sides ≡ T.sides }
     ensures ready { result.1 ≡ length table.core.live.ready }
@@ -72,16 +72,16 @@ fn ready_of<T: Table>(table: ShutCounted) -> (ShutCounted, usize)
 {
     let named = table.open::<T>();
     let ready = named.core().live().ready().len();
-    (named.shut(), ready)
+    (named.unname(), ready)
 }
 
 /// The table under a name, for a key.
-fn key_by<T: Table>(
-    table: ShutCounted,
+fn key_by<T: TableRings>(
+    table: UnnamedCounted,
     number: usize,
     columns: usize,
     row: &Row,
-) -> (ShutCounted, Result<Key, Fault>)
+) -> (UnnamedCounted, Result<Key, Fault>)
     requires pages { table.pages ≡ T.pages }
     requires sides { table.sides ≡ T.sides }
     ensures ok { IfOk result.1 (IsFirstKey table.core.live.heap.schema columns (slice_get table.core.live.ready number) row.now) }
@@ -91,11 +91,11 @@ fn key_by<T: Table>(
 {
     let named = table.open::<T>();
     let key = first_key(named.core(), number, columns, row);
-    (named.shut(), key)
+    (named.unname(), key)
 }
 
 /// The key by the first columns of a ready index.
-fn first_key<T: Table>(
+fn first_key<T: TableRings>(
     core: &Core<SpoolOfKind, T>,
     number: usize,
     columns: usize,
@@ -183,13 +183,13 @@ fn key_by_columns(
 }
 
 /// The table under a name, for a pair.
-fn next_of<T: Table>(
-    table: ShutCounted,
+fn next_of<T: TableRings>(
+    table: UnnamedCounted,
     number: usize,
     key: &Key,
     rid: Rid,
     past: bool,
-) -> (ShutCounted, Result<Option<(Key, Rid)>, Fault>)
+) -> (UnnamedCounted, Result<Option<(Key, Rid)>, Fault>)
     requires pages { table.pages ≡ T.pages }
     requires sides { table.sides ≡ T.sides }
     ensures ok { IfOk result.1 (λ found.
@@ -199,11 +199,11 @@ fn next_of<T: Table>(
 {
     let named = table.open::<T>();
     let found = next_pair(named.core(), number, key, rid, past);
-    (named.shut(), found)
+    (named.unname(), found)
 }
 
 /// The next pair of a ready index.
-fn next_pair<T: Table>(
+fn next_pair<T: TableRings>(
     core: &Core<SpoolOfKind, T>,
     number: usize,
     key: &Key,

@@ -5,8 +5,8 @@ ghost use Rattle.kept_table.specs.Progresses.{all_unfed, index_count, pages_copi
 use crate::Kept;
 use crate::counted::Counted;
 use crate::kept::taken;
-use crate::shut_counted::ShutCounted;
-use builder_core::{Core, Table};
+use crate::unnamed_counted::UnnamedCounted;
+use builder_core::{Core, TableRings};
 use prefix_spool::SpoolOfKind;
 use std::marker::Brand;
 
@@ -43,7 +43,7 @@ impl Kept {
 }
 
 /// The table under a name, for how far its build is.
-fn progress_of<T: Table>(table: ShutCounted) -> (ShutCounted, Progress)
+fn progress_of<T: TableRings>(table: UnnamedCounted) -> (UnnamedCounted, Progress)
     requires rings { table.pages ≡ T.pages }
     requires sides { table.sides ≡ T.sides }
     ensures running { result.1.running ≡ is_some table.core.live.build }
@@ -56,11 +56,11 @@ fn progress_of<T: Table>(table: ShutCounted) -> (ShutCounted, Progress)
 {
     let named = table.open::<T>();
     let progress = progress_at(&named);
-    (named.shut(), progress)
+    (named.unname(), progress)
 }
 
 /// How far the table's build is.
-fn progress_at<T: Table>(counted: &Counted<T>) -> Progress
+fn progress_at<T: TableRings>(counted: &Counted<T>) -> Progress
     ensures running { result.running ≡ is_some counted.now.live.build }
     ensures pages { result.pages ≡ pages_read counted.now.live.build }
     ensures scanned { result.scanned ≡ pages_copied counted.now.live.build }
@@ -82,7 +82,7 @@ fn progress_at<T: Table>(counted: &Counted<T>) -> Progress
 }
 
 /// How many indexes the build has.
-pub(crate) fn indexes_of<T: Table>(core: &Core<SpoolOfKind, T>) -> usize
+pub(crate) fn indexes_of<T: TableRings>(core: &Core<SpoolOfKind, T>) -> usize
     ensures { result ≡ index_count core.now.live.build }
 {
     match core.live().specs() {
@@ -92,7 +92,7 @@ pub(crate) fn indexes_of<T: Table>(core: &Core<SpoolOfKind, T>) -> usize
 }
 
 /// How many entries of the build's side-files were not fed.
-fn waiting_of<T: Table>(core: &Core<SpoolOfKind, T>, indexes: usize) -> usize
+fn waiting_of<T: TableRings>(core: &Core<SpoolOfKind, T>, indexes: usize) -> usize
     requires { indexes ≡ index_count core.now.live.build }
     ensures { result ≡ min (all_unfed core.now.live) 18446744073709551615 }
 {
@@ -104,7 +104,7 @@ fn waiting_of<T: Table>(core: &Core<SpoolOfKind, T>, indexes: usize) -> usize
 }
 
 /// How many entries of an index's side-file were not fed.
-fn left_of<T: Table>(core: &Core<SpoolOfKind, T>, index: usize) -> usize
+fn left_of<T: TableRings>(core: &Core<SpoolOfKind, T>, index: usize) -> usize
     ensures { result ≡ unfed_at core.now.live.heap.log core.now.live.build index }
 {
     match core.side(index) {

@@ -11,8 +11,8 @@ ghost use Rattle.build_events.specs.CoreState.{with_heap};
 
 use crate::Kept;
 use crate::kept::taken;
-use crate::shut_counted::ShutCounted;
-use builder_core::Table;
+use crate::unnamed_counted::UnnamedCounted;
+use builder_core::TableRings;
 use keybytes::{Fault, Rid, Row, Schema};
 use std::marker::Brand;
 
@@ -65,7 +65,7 @@ impl Kept {
 }
 
 /// The table under a name, for a row.
-fn row_at<T: Table>(table: ShutCounted, rid: Rid) -> (ShutCounted, Result<Row, Fault>)
+fn row_at<T: TableRings>(table: UnnamedCounted, rid: Rid) -> (UnnamedCounted, Result<Row, Fault>)
     requires pages { table.pages ≡ T.pages }
     requires sides { table.sides ≡ T.sides }
     ensures ok { IfOk result.1 (λ row. live_at table.core.live.heap.log rid ≡ Some row) }
@@ -78,11 +78,11 @@ fn row_at<T: Table>(table: ShutCounted, rid: Rid) -> (ShutCounted, Result<Row, F
     // Each row that stands has the table's columns.
     named.core().live().heap().laws();
     let row = named.get(rid);
-    (named.shut(), row)
+    (named.unname(), row)
 }
 
 /// The table under a name, for its columns.
-fn schema_of<T: Table>(table: ShutCounted) -> (ShutCounted, Schema)
+fn schema_of<T: TableRings>(table: UnnamedCounted) -> (UnnamedCounted, Schema)
     requires pages { table.pages ≡ T.pages }
     requires sides { table.sides ≡ T.sides }
     ensures schema { result.1 ≡ table.core.live.heap.schema }
@@ -90,11 +90,11 @@ fn schema_of<T: Table>(table: ShutCounted) -> (ShutCounted, Schema)
 {
     let named = table.open::<T>();
     let schema = named.core().live().heap().schema().copy();
-    (named.shut(), schema)
+    (named.unname(), schema)
 }
 
 /// The table under a name, for the number of its pages.
-fn pages_of<T: Table>(table: ShutCounted) -> (ShutCounted, u32)
+fn pages_of<T: TableRings>(table: UnnamedCounted) -> (UnnamedCounted, u32)
     requires pages { table.pages ≡ T.pages }
     requires sides { table.sides ≡ T.sides }
     ensures pages { result.1 ≡ pages_written table.core.live.heap.log }
@@ -102,11 +102,14 @@ fn pages_of<T: Table>(table: ShutCounted) -> (ShutCounted, u32)
 {
     let named = table.open::<T>();
     let pages = named.core().live().heap().pages();
-    (named.shut(), pages)
+    (named.unname(), pages)
 }
 
 /// The table under a name, for the row that bytes spell.
-fn row_of<T: Table>(table: ShutCounted, bytes: &[u8]) -> (ShutCounted, Result<Row, Fault>)
+fn row_of<T: TableRings>(
+    table: UnnamedCounted,
+    bytes: &[u8],
+) -> (UnnamedCounted, Result<Row, Fault>)
     requires pages { table.pages ≡ T.pages }
     requires sides { table.sides ≡ T.sides }
     ensures ok { IfOk result.1 (λ row. Spells table.core.live.heap.schema bytes.now row) }
@@ -117,5 +120,5 @@ fn row_of<T: Table>(table: ShutCounted, bytes: &[u8]) -> (ShutCounted, Result<Ro
     let named = table.open::<T>();
     let live = named.core().live();
     let row = Row::read(live.allocator(), bytes, live.heap().schema());
-    (named.shut(), row)
+    (named.unname(), row)
 }

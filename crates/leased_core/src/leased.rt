@@ -11,7 +11,7 @@ ghost use Rattle.build_events.specs.Verdicts.{HaveSharedKeys};
 ghost use Rattle.leased_core.specs.Leasing.{AreLeased, EndsBuild, FailsToStart, KeepsBuild, StartsOver, WantedLeasedPage, no_spools, stake_in, OnlyVisits};
 
 use crate::leases::Leases;
-use builder_core::{Core, Ends, Event, Live, Plan, Reply, Table};
+use builder_core::{Core, Ends, Event, Live, Plan, Reply, TableRings};
 use heap_log::Verdicts;
 use heap_table::Undone;
 use keybytes::{Fault, KeySpec, Pair, Rid, Row};
@@ -24,13 +24,13 @@ use std::marker::Model;
 /// spools. Contracts see the state of the core.
 ///
 /// It is no `Drop`: [`LeasedCore::close`] gives the pages back.
-pub struct LeasedCore<T: Table> {
+pub struct LeasedCore<T: TableRings> {
     pub(crate) alloc: Global,
     pub(crate) core: Core<SpoolOfKind, T>,
     pub(crate) leases: Option<Leases>,
 }
 
-impl<T: Table> Model for LeasedCore<T> {
+impl<T: TableRings> Model for LeasedCore<T> {
     ghost use Rattle.build_events.specs.CoreState.{CoreState};
     ghost use Rattle.leased_core.specs.Leasing.{LeasesFollow};
 
@@ -41,7 +41,7 @@ impl<T: Table> Model for LeasedCore<T> {
     ghost invariant = { λ leased. LeasesFollow leased.leases leased.core };
 }
 
-impl<T: Table> LeasedCore<T> {
+impl<T: TableRings> LeasedCore<T> {
     /// The table, with no build running.
     pub fn new(alloc: Global, live: Live<T>, ends: Ends<T>) -> LeasedCore<T>
         ensures { result ≡ opening live.state no_spools }
@@ -183,7 +183,7 @@ impl<T: Table> LeasedCore<T> {
 }
 
 /// Takes the spools out of the core and gives them up, and answers how many of their pages are missing.
-fn end_build<T: Table>(
+fn end_build<T: TableRings>(
     alloc: Global,
     core: &mut Core<SpoolOfKind, T>,
     leases: Option<Leases>,

@@ -47,7 +47,7 @@ pub record PartsValue : Type 0 where
   pub sides : List RingId
 
 -- a core whose name was taken off: what it is under a name, and the rings that the name has to be of
-pub record ShutValue : Type 0 where
+pub record UnnamedValue : Type 0 where
   pub core : CoreState
   pub pages : List RingId
   pub sides : List RingId

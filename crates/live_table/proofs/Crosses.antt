@@ -7,7 +7,7 @@ use Rattle.side_file.proofs.side_file.SideFile.TheSendSync as side
 use Rattle.page_workers.proofs.page_putter.PagePutter.TheSendSync as putter
 use Rattle.heap_table.proofs.heap.Heap.TheSendSync as heap
 use Rattle.table_scan.proofs.table_scan.TableScan.TheSendSync as scan
-use Rattle.page_workers.specs.declared.table.Table.{Ghosts}
+use Rattle.page_workers.specs.declared.table_rings.TableRings.{Ghosts}
 use Rattle.live_table.specs.contracts.live.Live as Live
 
 pub live_send : (T : RattleType) (g : Ghosts T.Denot) → IsSend (Live.the_row T g)

@@ -28,8 +28,8 @@ mod workers;
 mod writes;
 
 use crate::rest::at_rest;
-use crate::shut_live::ShutLive;
-use crate::{Pair, Table};
+use crate::unnamed_live::UnnamedLive;
+use crate::{Pair, TableRings};
 use heap_table::Heap;
 use keybytes::{Fault, KeySpec, Rid, Row};
 use page_workers::PagePutter;
@@ -43,7 +43,7 @@ use table_scan::{TableScan, reset_all};
 /// A table, its ready indexes, each of which has the pairs of the rows that stand and that it takes, which pages the running build copied, and the
 /// ends of the rings that the table puts into: all that a lock has to keep once threads share it. What stands beside it is a
 /// [`crate::Building`].
-pub struct Live<T: Table> {
+pub struct Live<T: TableRings> {
     pub(crate) alloc: Global,
     pub(crate) heap: Heap,
     pub(crate) ready: ReadyIndexes,
@@ -54,7 +54,7 @@ pub struct Live<T: Table> {
     pub(crate) of: PhantomData<T>,
 }
 
-impl<T: Table> Drop for Live<T> {
+impl<T: TableRings> Drop for Live<T> {
     fn drop(self) {
         let Live {
             alloc: _,
@@ -69,7 +69,7 @@ impl<T: Table> Drop for Live<T> {
     }
 }
 
-impl<T: Table> Model for Live<T> {
+impl<T: TableRings> Model for Live<T> {
     ghost use Rattle.ready_indexes.specs.Following.{AllFollow, indexes_of};
     ghost use Rattle.live_lemmas.specs.Builds.{LiveValue};
     ghost use Rattle.table_scan.specs.TableBuilds.{BuildFollows};
@@ -93,7 +93,7 @@ impl<T: Table> Model for Live<T> {
         × EntriesAreOfBuilds live.builds (put_ends live.sides.items) };
 }
 
-impl<T: Table> Live<T> {
+impl<T: TableRings> Live<T> {
     /// A table with no index and no build, and the ends of its rings.
     pub(crate) fn with_ends(
         alloc: Global,
@@ -259,7 +259,7 @@ impl<T: Table> Live<T> {
     }
 
     /// Takes its name off. Takes no memory.
-    pub fn shut(self) -> ShutLive
+    pub fn unname(self) -> UnnamedLive
         ensures live { result ≡ self }
         ensures pages { put_rings result.pages ≡ T.pages }
         ensures sides { side_rings result.sides ≡ T.sides }
@@ -274,7 +274,7 @@ impl<T: Table> Live<T> {
             sides,
             of: _,
         } = self;
-        ShutLive {
+        UnnamedLive {
             alloc,
             heap,
             ready,

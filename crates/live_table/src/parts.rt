@@ -3,7 +3,7 @@ ghost use Rattle.page_workers.specs.TakeEnd.{take_end};
 ghost use Rattle.building.specs.Rings.{put_rings, take_rings, all_sent, AreOfBuilds};
 ghost use Rattle.table_scan.specs.SideFiles.{side_rings, taken_rings, put_ends};
 
-use crate::{Ends, Live, Table};
+use crate::{Ends, Live, TableRings};
 use heap_table::Heap;
 use keybytes::Fault;
 use page_workers::{Intake, PagePutter, page_ring};
@@ -99,7 +99,7 @@ impl Parts {
     }
 
     /// The table under its name, with no index and no build, and the other ends of its rings, which were sent nothing yet.
-    pub fn open<T: Table>(self) -> (Live<T>, Ends<T>)
+    pub fn open<T: TableRings>(self) -> (Live<T>, Ends<T>)
         requires pages { self.pages ≡ T.pages }
         requires sides { self.sides ≡ T.sides }
         ensures live { result.0.state ≡ record { heap = self.heap; ready = []; builds = 0; build = None } }

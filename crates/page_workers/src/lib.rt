@@ -17,13 +17,13 @@
 mod copied;
 mod intake;
 mod page_putter;
-mod table;
+mod table_rings;
 mod turn;
 mod worker;
 
 pub use copied::Copied;
 pub use intake::Intake;
 pub use page_putter::{PagePutter, RING_IMAGES, page_ring};
-pub use table::Table;
+pub use table_rings::TableRings;
 pub use turn::Turn;
 pub use worker::Worker;

@@ -7,7 +7,7 @@ use crate::failure::Failure;
 use crate::timeline_svg::{Gain, GainKind};
 use crate::words::{key_at, push_cells};
 use btree::Tree;
-use builder_core::{Core, Table};
+use builder_core::{Core, TableRings};
 use keybytes::{KeySpec, Pair};
 use prefix_spool::SpoolOfKind;
 use replay::SharedLine;
@@ -18,7 +18,7 @@ use std::fmt::Write;
 const PAIRS_MAX: usize = 40;
 
 /// An index that became ready under that number, with its pairs.
-pub fn ready<T: Table>(
+pub fn ready<T: TableRings>(
     alloc: Global,
     core: &Core<SpoolOfKind, T>,
     row: usize,

@@ -7,7 +7,7 @@ use crate::lanes::Lanes;
 use crate::records::record_texts;
 use crate::story::Story;
 use crate::timeline_svg::{PictureError, ROWS_MAX, svg};
-use builder_core::{Parts, Table};
+use builder_core::{Parts, TableRings};
 use keybytes::Fault;
 use leased_core::LeasedCore;
 use replay::{Session, Status, refuse, table_parts};
@@ -108,7 +108,7 @@ fn refuse_table(fault: Fault, story: &mut Story) -> Result<Status, Failure>
 }
 
 /// Gives the table a name, and runs the commands on it.
-fn run_table<T: Table>(
+fn run_table<T: TableRings>(
     alloc: Global,
     parts: Parts,
     commands: Vec<NumberedCommand>,
@@ -127,7 +127,7 @@ fn run_table<T: Table>(
     Ok(session.status())
 }
 
-fn run_all<T: Table>(
+fn run_all<T: TableRings>(
     session: &mut Session,
     leased: &mut LeasedCore<T>,
     commands: Vec<NumberedCommand>,
@@ -143,7 +143,7 @@ fn run_all<T: Table>(
 }
 
 /// Runs the next command, and looks at the table before and behind it.
-fn run_next<T: Table>(
+fn run_next<T: TableRings>(
     session: &mut Session,
     leased: &mut LeasedCore<T>,
     command: NumberedCommand,

@@ -7,14 +7,17 @@ ghost use Rattle.keybytes.specs.Keys.{IsKeyOf};
 use crate::failure::Failure;
 use crate::timeline_svg::{Mark, MarkKind};
 use crate::words::key_at;
-use builder_core::{Core, Entry, INDEXES_MAX, Op, Table};
+use builder_core::{Core, Entry, INDEXES_MAX, Op, TableRings};
 use keybytes::KeySpec;
 use prefix_spool::SpoolOfKind;
 use std::alloc::Global;
 use std::collections::vec_deque::Iter;
 
 /// How many entries the side-file of each index has that aren't fed yet; none where no build runs.
-pub fn counts<T: Table>(alloc: Global, core: &Core<SpoolOfKind, T>) -> Result<Vec<usize>, Failure> {
+pub fn counts<T: TableRings>(
+    alloc: Global,
+    core: &Core<SpoolOfKind, T>,
+) -> Result<Vec<usize>, Failure> {
     let mut counts = Vec::new(alloc);
     for index in 0..INDEXES_MAX {
         let Ok(entries) = core.live().side(index) else {
@@ -26,7 +29,7 @@ pub fn counts<T: Table>(alloc: Global, core: &Core<SpoolOfKind, T>) -> Result<Ve
 }
 
 /// Adds a mark in the lane for each entry of an index's side-file behind the first so many.
-pub fn mark_added<T: Table>(
+pub fn mark_added<T: TableRings>(
     alloc: Global,
     core: &Core<SpoolOfKind, T>,
     index: usize,

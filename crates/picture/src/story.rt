@@ -6,7 +6,7 @@ use crate::lanes::Lanes;
 use crate::record_text::RecordText;
 use crate::teller::Teller;
 use crate::timeline_svg::{Row, Timeline};
-use builder_core::{Core, Table};
+use builder_core::{Core, TableRings};
 use keybytes::Fault;
 use prefix_spool::SpoolOfKind;
 use replay::Answer;
@@ -41,7 +41,7 @@ impl Story {
     }
 
     /// Looks at the table before a command, and answers what the command is to do.
-    pub fn before<T: Table>(
+    pub fn before<T: TableRings>(
         &mut self,
         core: &Core<SpoolOfKind, T>,
         command: &Command,
@@ -52,7 +52,7 @@ impl Story {
     }
 
     /// Looks at the table behind a command that was answered so.
-    pub fn after<T: Table>(
+    pub fn after<T: TableRings>(
         &mut self,
         core: &Core<SpoolOfKind, T>,
         deed: &Deed,

@@ -10,7 +10,7 @@ use crate::sides::{counts, mark_added};
 use crate::sight::Sight;
 use crate::timeline_svg::{Gain, Mark, MarkKind, Row, RowKind, Side, Timeline};
 use crate::words::refusal;
-use builder_core::{Core, Table};
+use builder_core::{Core, TableRings};
 use keybytes::{Fault, Rid};
 use prefix_spool::SpoolOfKind;
 use replay::Answer;
@@ -61,7 +61,7 @@ impl Teller {
     }
 
     /// Looks at the table before a command, and answers what the command is to do.
-    pub fn before<T: Table>(
+    pub fn before<T: TableRings>(
         &mut self,
         core: &Core<SpoolOfKind, T>,
         command: &Command,
@@ -71,7 +71,7 @@ impl Teller {
     }
 
     /// Looks at the table behind a command that was answered so, and tells its row.
-    pub fn after<T: Table>(
+    pub fn after<T: TableRings>(
         &mut self,
         core: &Core<SpoolOfKind, T>,
         deed: &Deed,
@@ -155,7 +155,7 @@ impl Teller {
     }
 
     /// Marks the entries that the command appended to the side-files.
-    fn mark_entries<T: Table>(
+    fn mark_entries<T: TableRings>(
         &self,
         core: &Core<SpoolOfKind, T>,
         marks: &mut Vec<Mark>,

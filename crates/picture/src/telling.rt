@@ -7,7 +7,7 @@ use crate::sight::Sight;
 use crate::teller::Teller;
 use crate::timeline_svg::{MarkKind, Row, RowKind, SpanKind};
 use crate::words::refusal;
-use builder_core::{Core, Dealing, Table};
+use builder_core::{Core, Dealing, TableRings};
 use heap_log::Outcome;
 use keybytes::Rid;
 use prefix_spool::SpoolOfKind;
@@ -16,7 +16,7 @@ use std::fmt::Write;
 
 impl Teller {
     /// Tells a command that was answered so.
-    pub(crate) fn tell<T: Table>(
+    pub(crate) fn tell<T: TableRings>(
         &mut self,
         core: &Core<SpoolOfKind, T>,
         deed: &Deed,
@@ -235,7 +235,7 @@ impl Teller {
     }
 
     /// A switch has decided.
-    fn tell_switch<T: Table>(
+    fn tell_switch<T: TableRings>(
         &mut self,
         core: &Core<SpoolOfKind, T>,
         verdicts: &[Outcome],
@@ -267,7 +267,7 @@ impl Teller {
         self.mark(row, self.lanes.of_index(index), MarkKind::Apply, text)
     }
 
-    fn tell_verdict<T: Table>(
+    fn tell_verdict<T: TableRings>(
         &mut self,
         core: &Core<SpoolOfKind, T>,
         index: usize,

@@ -5,7 +5,7 @@ use denote.Param.Send.{IsSend, IsSync, sendable}
 use denote.Param.SendFields.{declared_sync}
 use Rattle.std.proofs.Crossing.{crosses}
 use Rattle.log_prefixes.specs.declared.named.Named as named
-use Rattle.page_workers.specs.declared.table.Table as table
+use Rattle.page_workers.specs.declared.table_rings.TableRings as table
 use Rattle.crew.specs.declared.table.opened.Opened as opened
 use Rattle.crew.proofs.Crosses.{table_sync}
 use Rattle.race.specs.contracts.watching.Watching as Watching

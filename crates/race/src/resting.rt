@@ -4,11 +4,11 @@ ghost use Rattle.race.specs.Resting.{AreChecked};
 
 use crate::check_line::CheckLine;
 use btree::Tree;
-use builder_core::{INDEXES_MAX, Live, Table};
+use builder_core::{INDEXES_MAX, Live, TableRings};
 use keybytes::{Fault, Pair};
 
 /// A line for each ready index, of which a build has eight at most. There is room for them.
-pub fn check_all<T: Table>(live: &mut Live<T>, lines: &mut Vec<CheckLine>)
+pub fn check_all<T: TableRings>(live: &mut Live<T>, lines: &mut Vec<CheckLine>)
     requires none { lines.old.items ≡ [] }
     requires room { 8 ≤ vec_capacity lines.old }
     ensures { AreChecked (length live.old.state.ready) lines.new.items }
@@ -18,7 +18,7 @@ pub fn check_all<T: Table>(live: &mut Live<T>, lines: &mut Vec<CheckLine>)
     }
 }
 
-fn check<T: Table>(live: &mut Live<T>, number: usize) -> CheckLine
+fn check<T: TableRings>(live: &mut Live<T>, number: usize) -> CheckLine
     requires { number < length live.old.state.ready }
     ensures same { ¬ (result ≡ CheckLine.Differs) }
     ensures ready { live.new.state.ready ≡ live.old.state.ready }
@@ -31,7 +31,7 @@ fn check<T: Table>(live: &mut Live<T>, number: usize) -> CheckLine
 }
 
 /// Whether the ready index of that number has the pairs that a build at rest gives.
-fn is_same<T: Table>(live: &mut Live<T>, number: usize) -> Result<bool, Fault>
+fn is_same<T: TableRings>(live: &mut Live<T>, number: usize) -> Result<bool, Fault>
     requires { number < length live.old.state.ready }
     ensures same { IfOk result (λ same. same ≡ true) }
     ensures ready { live.new.state.ready ≡ live.old.state.ready }

@@ -12,7 +12,7 @@ use crate::entry_line::EntryLine;
 use crate::pair_line::PairLine;
 use crate::shared_line::SharedLine;
 use btree::Tree;
-use builder_core::{Core, Entry, Pair, Table};
+use builder_core::{Core, Entry, Pair, TableRings};
 use heap_log::Outcome;
 use keybytes::{Fault, KeySpec, copied_specs};
 use prefix_spool::SpoolOfKind;
@@ -121,7 +121,7 @@ fn add_shared(
 }
 
 /// Copies of what makes the keys of the indexes that are being built.
-pub fn build_specs<T: Table>(
+pub fn build_specs<T: TableRings>(
     alloc: Global,
     core: &Core<SpoolOfKind, T>,
 ) -> Result<Vec<KeySpec>, Fault>

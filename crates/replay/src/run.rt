@@ -9,7 +9,7 @@ use crate::parts::table_parts;
 use crate::report::refuse;
 use crate::session::Session;
 use crate::status::Status;
-use builder_core::{Parts, Table};
+use builder_core::{Parts, TableRings};
 use keybytes::Fault;
 use leased_core::LeasedCore;
 use script::{NumberedCommand, Script};
@@ -80,7 +80,7 @@ pub fn refuse_table<W: Write + Drop>(
 }
 
 /// Gives the table a name, answers that it is made, and then the commands.
-fn answer_table<T: Table, W: Write + Drop>(
+fn answer_table<T: TableRings, W: Write + Drop>(
     alloc: Global,
     parts: Parts,
     number: usize,
@@ -101,7 +101,7 @@ fn answer_table<T: Table, W: Write + Drop>(
     Ok(session.status())
 }
 
-fn answer_all<T: Table, W: Write + Drop>(
+fn answer_all<T: TableRings, W: Write + Drop>(
     session: &mut Session,
     leased: &mut LeasedCore<T>,
     commands: Vec<NumberedCommand>,
@@ -115,7 +115,7 @@ fn answer_all<T: Table, W: Write + Drop>(
     Ok(())
 }
 
-fn answer_next<T: Table, W: Write + Drop>(
+fn answer_next<T: TableRings, W: Write + Drop>(
     session: &mut Session,
     leased: &mut LeasedCore<T>,
     command: NumberedCommand,

@@ -18,7 +18,7 @@ use crate::listing::{build_specs, entry_lines, pair_lines, shared_lines, tree_li
 use crate::plan::{is_in_limits, key_spec, key_specs};
 use crate::status::Status;
 use crate::txn::{begin, put, take_back};
-use builder_core::{Core, Event, Plan, Reply, Table};
+use builder_core::{Core, Event, Plan, Reply, TableRings};
 use heap_log::{Outcome, Verdicts};
 use keybytes::{Cell, Fault, KeySpec, Rid, Row};
 use leased_core::LeasedCore;
@@ -57,7 +57,7 @@ impl Session {
     }
 
     /// Runs a command, and answers it.
-    pub fn run<T: Table>(&mut self, leased: &mut LeasedCore<T>, command: Command) -> Answer
+    pub fn run<T: TableRings>(&mut self, leased: &mut LeasedCore<T>, command: Command) -> Answer
         ensures { Runs (state_of leased.old self.old) command result (state_of leased.new self.new) }
     {
         match self.answer(leased, command) {
@@ -66,7 +66,7 @@ impl Session {
         }
     }
 
-    fn answer<T: Table>(
+    fn answer<T: TableRings>(
         &mut self,
         leased: &mut LeasedCore<T>,
         command: Command,
@@ -101,7 +101,7 @@ impl Session {
 
     /// Puts a row in, by a transaction of its own. Where that is refused once the transaction has begun, what it wrote is
     /// taken back.
-    fn put_row<T: Table>(
+    fn put_row<T: TableRings>(
         &mut self,
         leased: &mut LeasedCore<T>,
         cells: Vec<Cell>,
@@ -120,7 +120,7 @@ impl Session {
     }
 
     /// Begins a transaction that the label names; where that is refused, it names none.
-    fn begin_named<T: Table>(
+    fn begin_named<T: TableRings>(
         &mut self,
         leased: &mut LeasedCore<T>,
         label: &Label,
@@ -133,7 +133,7 @@ impl Session {
         Ok(Answer::Number { number: txn })
     }
 
-    fn insert_named<T: Table>(
+    fn insert_named<T: TableRings>(
         &mut self,
         leased: &mut LeasedCore<T>,
         label: &Label,
@@ -146,7 +146,7 @@ impl Session {
         step(leased, Event::Insert { txn, row })
     }
 
-    fn update_named<T: Table>(
+    fn update_named<T: TableRings>(
         &mut self,
         leased: &mut LeasedCore<T>,
         label: &Label,
@@ -160,7 +160,7 @@ impl Session {
         step(leased, Event::Update { txn, rid, row })
     }
 
-    fn delete_named<T: Table>(
+    fn delete_named<T: TableRings>(
         &mut self,
         leased: &mut LeasedCore<T>,
         label: &Label,
@@ -173,7 +173,7 @@ impl Session {
     }
 
     /// Undoes one write; the label names the transaction still.
-    fn undo_named<T: Table>(
+    fn undo_named<T: TableRings>(
         &mut self,
         leased: &mut LeasedCore<T>,
         label: &Label,
@@ -184,7 +184,7 @@ impl Session {
         step(leased, Event::Undo { txn })
     }
 
-    fn commit_named<T: Table>(
+    fn commit_named<T: TableRings>(
         &mut self,
         leased: &mut LeasedCore<T>,
         label: &Label,
@@ -195,14 +195,18 @@ impl Session {
         step(leased, Event::Commit { txn })
     }
 
-    fn get<T: Table>(&mut self, leased: &mut LeasedCore<T>, rid: Rid) -> Result<Answer, Fault>
+    fn get<T: TableRings>(&mut self, leased: &mut LeasedCore<T>, rid: Rid) -> Result<Answer, Fault>
         ensures { Answers (state_of leased.old self.old) (Command.Get rid) result (state_of leased.new self.new) }
     {
         let row = leased.get(rid)?;
         Ok(Answer::Cells { row })
     }
 
-    fn start<T: Table>(&mut self, leased: &mut LeasedCore<T>, start: Start) -> Result<Answer, Fault>
+    fn start<T: TableRings>(
+        &mut self,
+        leased: &mut LeasedCore<T>,
+        start: Start,
+    ) -> Result<Answer, Fault>
         ensures { Answers (state_of leased.old self.old) (Command.Start start) result (state_of leased.new self.new) }
     {
         if leased.core().is_building() {
@@ -234,7 +238,7 @@ impl Session {
         Answer::Done
     }
 
-    fn key_specs<T: Table>(
+    fn key_specs<T: TableRings>(
         &self,
         core: &Core<SpoolOfKind, T>,
         specs: Vec<Spec>,
@@ -247,7 +251,7 @@ impl Session {
     }
 
     /// Tries to bring the build's indexes into use, and notes whether one was refused.
-    fn switch<T: Table>(&mut self, leased: &mut LeasedCore<T>) -> Result<Answer, Fault>
+    fn switch<T: TableRings>(&mut self, leased: &mut LeasedCore<T>) -> Result<Answer, Fault>
         ensures { Answers (state_of leased.old self.old) Command.Switch result (state_of leased.new self.new) }
     {
         let specs = build_specs(self.alloc, leased.core())?;
@@ -269,14 +273,18 @@ impl Session {
         })
     }
 
-    fn abandon<T: Table>(&mut self, leased: &mut LeasedCore<T>) -> Result<Answer, Fault>
+    fn abandon<T: TableRings>(&mut self, leased: &mut LeasedCore<T>) -> Result<Answer, Fault>
         ensures { Answers (state_of leased.old self.old) Command.Abandon result (state_of leased.new self.new) }
     {
         let pages = leased.abandon()?;
         Ok(Answer::Abandoned { pages })
     }
 
-    fn side<T: Table>(&self, core: &Core<SpoolOfKind, T>, index: usize) -> Result<Answer, Fault>
+    fn side<T: TableRings>(
+        &self,
+        core: &Core<SpoolOfKind, T>,
+        index: usize,
+    ) -> Result<Answer, Fault>
         ensures { Answers (state_of core.now self.now) (Command.Side index) result (state_of core.now self.now) }
     {
         let lines = self.side_lines(core, index)?;
@@ -284,7 +292,7 @@ impl Session {
     }
 
     /// The entries that are left in the side-file of an index that is being built.
-    fn side_lines<T: Table>(
+    fn side_lines<T: TableRings>(
         &self,
         core: &Core<SpoolOfKind, T>,
         index: usize,
@@ -299,7 +307,11 @@ impl Session {
         Ok(lines)
     }
 
-    fn pairs<T: Table>(&self, core: &Core<SpoolOfKind, T>, number: usize) -> Result<Answer, Fault>
+    fn pairs<T: TableRings>(
+        &self,
+        core: &Core<SpoolOfKind, T>,
+        number: usize,
+    ) -> Result<Answer, Fault>
         ensures { Answers (state_of core.now self.now) (Command.Pairs number) result (state_of core.now self.now) }
     {
         let index = core.ready(number)?;
@@ -307,7 +319,11 @@ impl Session {
         Ok(Answer::Pairs { lines })
     }
 
-    fn rest<T: Table>(&mut self, leased: &mut LeasedCore<T>, spec: Spec) -> Result<Answer, Fault>
+    fn rest<T: TableRings>(
+        &mut self,
+        leased: &mut LeasedCore<T>,
+        spec: Spec,
+    ) -> Result<Answer, Fault>
         ensures { Answers (state_of leased.old self.old) (Command.Rest spec) result (state_of leased.new self.new) }
     {
         let spec = self.key_spec(leased.core(), spec)?;
@@ -317,7 +333,11 @@ impl Session {
     }
 
     /// The key specification, of the table's columns.
-    fn key_spec<T: Table>(&self, core: &Core<SpoolOfKind, T>, spec: Spec) -> Result<KeySpec, Fault>
+    fn key_spec<T: TableRings>(
+        &self,
+        core: &Core<SpoolOfKind, T>,
+        spec: Spec,
+    ) -> Result<KeySpec, Fault>
         ensures made { IfOk result (λ made. made ≡ key_spec_of core.now.live.heap.schema spec) }
         ensures accepted { OnOk result (spec_refusal core.now.live.heap.schema spec ≡ None) }
         ensures refused { IfErr result (RefusedFor (spec_refusal core.now.live.heap.schema spec)) }
@@ -328,7 +348,7 @@ impl Session {
 }
 
 /// Runs an event that stands for a whole command.
-fn step<T: Table>(leased: &mut LeasedCore<T>, event: Event) -> Result<Answer, Fault>
+fn step<T: TableRings>(leased: &mut LeasedCore<T>, event: Event) -> Result<Answer, Fault>
     requires { KeepsBuild event }
     ensures { Happens event leased.old (answer_of result) leased.new }
 {

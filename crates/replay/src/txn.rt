@@ -5,13 +5,13 @@ ghost use Rattle.build_events.specs.declared.event.Event.{Event};
 ghost use Rattle.build_events.specs.declared.reply.Reply.{Reply};
 ghost use Rattle.replay.specs.Answers.{FailsToPut, PutsRow, TakesBack};
 
-use builder_core::Table;
+use builder_core::TableRings;
 use heap_table::Undone;
 use keybytes::{Fault, Rid, Row};
 use leased_core::LeasedCore;
 
 /// Begins a transaction, and answers its number.
-pub fn begin<T: Table>(leased: &mut LeasedCore<T>) -> Result<u64, Fault>
+pub fn begin<T: TableRings>(leased: &mut LeasedCore<T>) -> Result<u64, Fault>
     ensures ok { IfOk result (λ txn. Step leased.old Event.Begin (Reply.Begun txn) leased.new) }
     ensures refused { IfErr result (λ fault. Step leased.old Event.Begin (Reply.Refused fault) leased.new) }
 {
@@ -19,7 +19,7 @@ pub fn begin<T: Table>(leased: &mut LeasedCore<T>) -> Result<u64, Fault>
 }
 
 /// Inserts a row, and answers where it stands.
-pub fn insert<T: Table>(leased: &mut LeasedCore<T>, txn: u64, row: Row) -> Result<Rid, Fault>
+pub fn insert<T: TableRings>(leased: &mut LeasedCore<T>, txn: u64, row: Row) -> Result<Rid, Fault>
     ensures ok { IfOk result (λ rid. (number : ℕ) × Step leased.old (Event.Insert txn row) (Reply.Written number rid) leased.new) }
     ensures refused { IfErr result (λ fault. Step leased.old (Event.Insert txn row) (Reply.Refused fault) leased.new) }
 {
@@ -28,7 +28,7 @@ pub fn insert<T: Table>(leased: &mut LeasedCore<T>, txn: u64, row: Row) -> Resul
 }
 
 /// Commits a transaction.
-pub fn commit<T: Table>(leased: &mut LeasedCore<T>, txn: u64) -> Result<(), Fault>
+pub fn commit<T: TableRings>(leased: &mut LeasedCore<T>, txn: u64) -> Result<(), Fault>
     ensures ok { OnOk result ((number : ℕ) × Step leased.old (Event.Commit txn) (Reply.Committed number) leased.new) }
     ensures refused { IfErr result (λ fault. Step leased.old (Event.Commit txn) (Reply.Refused fault) leased.new) }
 {
@@ -37,7 +37,7 @@ pub fn commit<T: Table>(leased: &mut LeasedCore<T>, txn: u64) -> Result<(), Faul
 }
 
 /// Inserts a row and commits, and answers where the row stands.
-pub fn put<T: Table>(leased: &mut LeasedCore<T>, txn: u64, row: Row) -> Result<Rid, Fault>
+pub fn put<T: TableRings>(leased: &mut LeasedCore<T>, txn: u64, row: Row) -> Result<Rid, Fault>
     ensures ok { IfOk result (λ rid. PutsRow row txn leased.old rid leased.new) }
     ensures refused { IfErr result (λ fault. FailsToPut row txn leased.old fault leased.new) }
 {
@@ -48,7 +48,7 @@ pub fn put<T: Table>(leased: &mut LeasedCore<T>, txn: u64, row: Row) -> Result<R
 
 /// Undoes the transaction's writes until it has ended. Where an undo is refused, because memory is wanting, the transaction stays
 /// open.
-pub fn take_back<T: Table>(leased: &mut LeasedCore<T>, txn: u64)
+pub fn take_back<T: TableRings>(leased: &mut LeasedCore<T>, txn: u64)
     ensures { (more : ℕ) × TakesBack more leased.old txn leased.new }
 {
     let Ok(Undone { left, .. }) = leased.undo(txn) else {

@@ -15,7 +15,7 @@ use crate::printing::{print_bad, print_status};
 use crate::report::{no_table, report};
 use crate::status_line::StatusLine;
 use crate::word::Word;
-use builder_core::Table;
+use builder_core::TableRings;
 use keybytes::Fault;
 use leased_core::LeasedCore;
 use replay::{Answer, Output, OutputFailed, Session, refuse_table, table_parts};
@@ -91,7 +91,7 @@ fn make_table<W: Write + Drop>(
 }
 
 /// Answers a record on a table, and tells whether the conversation goes on.
-pub fn answer_on_table<T: Table, W: Write + Drop>(
+pub fn answer_on_table<T: TableRings, W: Write + Drop>(
     alloc: Global,
     session: &mut Session,
     leased: &mut LeasedCore<T>,
@@ -132,7 +132,7 @@ pub fn answer_on_table<T: Table, W: Write + Drop>(
 }
 
 /// Runs a command, and notes what it is answered.
-fn answer_command<T: Table>(
+fn answer_command<T: TableRings>(
     session: &mut Session,
     leased: &mut LeasedCore<T>,
     counts: &mut Counts,

@@ -4,7 +4,7 @@ use crate::build_line::BuildLine;
 use crate::counts::Counts;
 use crate::status_line::StatusLine;
 use crate::wait::Wait;
-use builder_core::{Core, Table};
+use builder_core::{Core, TableRings};
 use prefix_spool::SpoolOfKind;
 use std::alloc::{AllocFailed, Global};
 
@@ -20,7 +20,7 @@ pub fn no_table<'a>(alloc: Global) -> Result<Vec<StatusLine<'a>>, AllocFailed<St
 
 /// What `status` tells of a table: itself, its build with what is to be done before a switch decides, first things first, and the indexes that are
 /// ready.
-pub fn report<'a, T: Table>(
+pub fn report<'a, T: TableRings>(
     alloc: Global,
     core: &'a Core<SpoolOfKind, T>,
     counts: &Counts,
@@ -42,7 +42,7 @@ pub fn report<'a, T: Table>(
     Ok(lines)
 }
 
-fn add_ready<'a, T: Table>(
+fn add_ready<'a, T: TableRings>(
     lines: &mut Vec<StatusLine<'a>>,
     core: &'a Core<SpoolOfKind, T>,
 ) -> Result<(), AllocFailed<StatusLine<'a>>> {
@@ -55,7 +55,7 @@ fn add_ready<'a, T: Table>(
     Ok(())
 }
 
-fn add_build<'a, T: Table>(
+fn add_build<'a, T: TableRings>(
     lines: &mut Vec<StatusLine<'a>>,
     core: &'a Core<SpoolOfKind, T>,
     build: &BuildCounts,
@@ -97,7 +97,7 @@ fn phase(build: &BuildCounts) -> &'static str {
 }
 
 /// How many entries of an index's side-file aren't fed yet.
-fn unfed<T: Table>(core: &Core<SpoolOfKind, T>, index: usize) -> u64 {
+fn unfed<T: TableRings>(core: &Core<SpoolOfKind, T>, index: usize) -> u64 {
     match core.side(index) {
         Ok(entries) => entries.count() as u64,
         Err(_) => 0,
@@ -105,7 +105,7 @@ fn unfed<T: Table>(core: &Core<SpoolOfKind, T>, index: usize) -> u64 {
 }
 
 /// Adds what a switch waits for: what is to be done before it decides, first things first.
-fn add_waits<'a, T: Table>(
+fn add_waits<'a, T: TableRings>(
     lines: &mut Vec<StatusLine<'a>>,
     core: &'a Core<SpoolOfKind, T>,
     build: &BuildCounts,
@@ -131,7 +131,7 @@ fn add_waits<'a, T: Table>(
 }
 
 /// Adds what a switch waits for once all is loaded: entries and transactions.
-fn add_last_waits<'a, T: Table>(
+fn add_last_waits<'a, T: TableRings>(
     lines: &mut Vec<StatusLine<'a>>,
     core: &'a Core<SpoolOfKind, T>,
     build: &BuildCounts,
@@ -148,7 +148,7 @@ fn add_last_waits<'a, T: Table>(
 }
 
 /// How many entries aren't applied yet, fed or not.
-fn left<T: Table>(core: &Core<SpoolOfKind, T>, build: &BuildCounts) -> u64 {
+fn left<T: TableRings>(core: &Core<SpoolOfKind, T>, build: &BuildCounts) -> u64 {
     let mut left: u64 = 0;
     for (index, counts) in build.indexes().iter().enumerate() {
         left = left
@@ -159,7 +159,7 @@ fn left<T: Table>(core: &Core<SpoolOfKind, T>, build: &BuildCounts) -> u64 {
 }
 
 /// Whether the build has a unique index.
-fn has_unique<T: Table>(core: &Core<SpoolOfKind, T>) -> bool {
+fn has_unique<T: TableRings>(core: &Core<SpoolOfKind, T>) -> bool {
     match core.live().specs() {
         Some(specs) => specs.iter().any(|spec| spec.unique()),
         None => false,

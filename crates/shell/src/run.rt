@@ -8,7 +8,7 @@ use crate::before_table::BeforeTable;
 use crate::counts::Counts;
 use crate::failed::Failed;
 use crate::input::Input;
-use builder_core::{Parts, Table};
+use builder_core::{Parts, TableRings};
 use leased_core::LeasedCore;
 use replay::{Output, Session, Status};
 use std::alloc::Global;
@@ -98,7 +98,7 @@ fn await_table<R: Read + Drop, W: Write + Drop, P: Write + Drop>(
 }
 
 /// Gives the table a name, and answers records on it to the end. A build that runs then is given up, with its pages.
-fn use_table<T: Table, R: Read + Drop, W: Write + Drop, P: Write + Drop>(
+fn use_table<T: TableRings, R: Read + Drop, W: Write + Drop, P: Write + Drop>(
     alloc: Global,
     parts: Parts,
     mut counts: Counts,
@@ -118,7 +118,7 @@ fn use_table<T: Table, R: Read + Drop, W: Write + Drop, P: Write + Drop>(
     Ok(session.status())
 }
 
-fn answer_all<T: Table, R: Read + Drop, W: Write + Drop, P: Write + Drop>(
+fn answer_all<T: TableRings, R: Read + Drop, W: Write + Drop, P: Write + Drop>(
     alloc: Global,
     session: &mut Session,
     leased: &mut LeasedCore<T>,

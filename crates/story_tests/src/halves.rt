@@ -6,7 +6,7 @@ use crate::list_spool::{Free, ListSpool};
 use crate::made::list_spool;
 use crate::rows::{On, PAIRED, Rows, heap, plan as plan_of, rest_of};
 use builder_core::{
-    Building, Dealing, Ends, Event, Live, Pair, Parts, Plan, Reply, Table, run_events,
+    Building, Dealing, Ends, Event, Live, Pair, Parts, Plan, Reply, TableRings, run_events,
 };
 use heap_table::PageImage;
 use keybytes::Fault;
@@ -92,7 +92,7 @@ pub static BACK: [(Half, Told); 12] = [
     (Half::Follow, Ok(7)),
 ];
 
-pub fn scanned<T: Table>(
+pub fn scanned<T: TableRings>(
     live: &mut Live<T>,
     range: usize,
     worker: usize,
@@ -104,7 +104,7 @@ pub fn scanned<T: Table>(
     }
 }
 
-pub fn started<T: Table>(
+pub fn started<T: TableRings>(
     live: &mut Live<T>,
     building: &mut Building<ListSpool<Free>, T>,
     plan: &Plan,
@@ -120,13 +120,13 @@ fn nowhere(alloc: Global) -> Result<Plan, Fault> {
     })
 }
 
-fn exchanged<T: Table>(alloc: Global, building: &mut Building<ListSpool<Free>, T>) -> Told {
+fn exchanged<T: TableRings>(alloc: Global, building: &mut Building<ListSpool<Free>, T>) -> Told {
     let _others = building.exchange(vec![in alloc; list_spool(alloc)?]?);
     Ok(0)
 }
 
 /// Puts the pairs of the index in order, where that can be done.
-fn loaded<T: Table>(alloc: Global, building: &mut Building<ListSpool<Free>, T>) -> Told {
+fn loaded<T: TableRings>(alloc: Global, building: &mut Building<ListSpool<Free>, T>) -> Told {
     let Some(work) = building.work() else {
         return Err(Fault::NoBuild);
     };
@@ -138,7 +138,7 @@ fn loaded<T: Table>(alloc: Global, building: &mut Building<ListSpool<Free>, T>) 
 }
 
 /// Applies entries without the table, where that can be done.
-fn applied_alone<T: Table>(building: &mut Building<ListSpool<Free>, T>, most: usize) -> Told {
+fn applied_alone<T: TableRings>(building: &mut Building<ListSpool<Free>, T>, most: usize) -> Told {
     let seen = building.look_for_entries(0);
     let Some(work) = building.work() else {
         return Err(Fault::NoBuild);
@@ -150,7 +150,7 @@ fn applied_alone<T: Table>(building: &mut Building<ListSpool<Free>, T>, most: us
     building.apply(0, most.min(seen))
 }
 
-fn fed<T: Table>(
+fn fed<T: TableRings>(
     live: &mut Live<T>,
     building: &mut Building<ListSpool<Free>, T>,
     most: usize,
@@ -159,7 +159,7 @@ fn fed<T: Table>(
     live.feed_beside(0, most, building)
 }
 
-fn applied<T: Table>(
+fn applied<T: TableRings>(
     live: &mut Live<T>,
     building: &mut Building<ListSpool<Free>, T>,
     most: usize,
@@ -169,14 +169,14 @@ fn applied<T: Table>(
     live.apply(0, most, building)
 }
 
-fn has_pairs<T: Table>(live: &Live<T>, pairs: &[Pair]) -> bool {
+fn has_pairs<T: TableRings>(live: &Live<T>, pairs: &[Pair]) -> bool {
     match live.ready().get(0) {
         Some(index) => index.tree().iter().eq(pairs),
         None => false,
     }
 }
 
-fn followed<T: Table>(alloc: Global, live: &mut Live<T>) -> Told {
+fn followed<T: TableRings>(alloc: Global, live: &mut Live<T>) -> Told {
     let pairs = rest_of(alloc, live, ON)?;
     if has_pairs(live, &pairs) {
         Ok(pairs.len())
@@ -185,7 +185,7 @@ fn followed<T: Table>(alloc: Global, live: &mut Live<T>) -> Told {
     }
 }
 
-fn does<T: Table>(
+fn does<T: TableRings>(
     alloc: Global,
     live: &mut Live<T>,
     building: &mut Building<ListSpool<Free>, T>,
@@ -220,7 +220,7 @@ fn does<T: Table>(
 }
 
 /// The number of the first case that is answered otherwise.
-pub fn first_other<T: Table>(
+pub fn first_other<T: TableRings>(
     alloc: Global,
     live: &mut Live<T>,
     building: &mut Building<ListSpool<Free>, T>,
@@ -260,7 +260,7 @@ fn are_built(replies: Result<Vec<Reply>, Fault>) -> Result<bool, Fault> {
 }
 
 /// The number of the first case that is answered otherwise, or of none where a build behind them is.
-fn apart_of<T: Table>(
+fn apart_of<T: TableRings>(
     alloc: Global,
     live: Live<T>,
     ends: Ends<T>,
@@ -279,7 +279,7 @@ fn apart_of<T: Table>(
     Ok(Some(APART.len()))
 }
 
-fn other_of<T: Table>(
+fn other_of<T: TableRings>(
     alloc: Global,
     parts: Parts,
     spools: Vec<ListSpool<Free>>,

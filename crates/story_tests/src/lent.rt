@@ -8,7 +8,7 @@ ghost use Rattle.building.specs.Lent.{AreBack, CanLend};
 use crate::halves::{BACK, Told, first_other, scanned, started};
 use crate::list_spool::{Free, ListSpool};
 use crate::rows::row;
-use builder_core::{Building, Ends, Live, Plan, Table, Worker};
+use builder_core::{Building, Ends, Live, Plan, TableRings, Worker};
 use heap_table::PageImage;
 use keybytes::{Fault, Rid};
 use std::alloc::Global;
@@ -68,13 +68,13 @@ fn by_one(workers: &mut Vec<Worker<ListSpool<Free>>>, number: usize, what: &Lent
     by_worker(&mut workers[number], what)
 }
 
-fn updated<T: Table>(alloc: Global, live: &mut Live<T>, number: i64) -> Told {
+fn updated<T: TableRings>(alloc: Global, live: &mut Live<T>, number: i64) -> Told {
     let txn = live.begin()?;
     live.update(txn, Rid { page: 0, slot: 0 }, row(alloc, number, 0)?)?;
     live.commit(txn)
 }
 
-fn does_while_lent<T: Table>(
+fn does_while_lent<T: TableRings>(
     alloc: Global,
     live: &mut Live<T>,
     workers: &mut Vec<Worker<ListSpool<Free>>>,
@@ -92,7 +92,7 @@ fn does_while_lent<T: Table>(
 }
 
 /// The number of the first case that is answered otherwise while they are lent.
-fn other_while_lent<T: Table>(
+fn other_while_lent<T: TableRings>(
     alloc: Global,
     live: &mut Live<T>,
     workers: &mut Vec<Worker<ListSpool<Free>>>,
@@ -109,7 +109,7 @@ fn other_while_lent<T: Table>(
 }
 
 /// Whether a build goes on whose workers have their spools.
-fn can_lend<T: Table>(building: &Building<ListSpool<Free>, T>) -> bool
+fn can_lend<T: TableRings>(building: &Building<ListSpool<Free>, T>) -> bool
     ensures { result ≡ true → CanLend building.now }
 {
     match building.work() {
@@ -119,7 +119,7 @@ fn can_lend<T: Table>(building: &Building<ListSpool<Free>, T>) -> bool
 }
 
 /// Lends the workers, and takes them back: the first case that is answered otherwise meanwhile.
-fn lend_and_gather<T: Table>(
+fn lend_and_gather<T: TableRings>(
     alloc: Global,
     live: &mut Live<T>,
     building: Building<ListSpool<Free>, T>,
@@ -133,7 +133,7 @@ fn lend_and_gather<T: Table>(
 
 /// The first case that is answered otherwise in a build by two workers, or behind those the first one once they are
 /// back.
-pub fn lent_of<T: Table>(
+pub fn lent_of<T: TableRings>(
     alloc: Global,
     live: Live<T>,
     ends: Ends<T>,

@@ -10,10 +10,10 @@ use crate::story::{Kind, NONE, Stock};
 use crate::tasks::{Other, Prepared, parts, start_of};
 use crate::telling::{Mode, Went, on_if, told_otherwise};
 use crate::turns::Turn;
-use builder_core::{Ends, Event, Live, Parts, Reply, Table, run_events};
+use builder_core::{Ends, Event, Live, Parts, Reply, TableRings, run_events};
 use keybytes::{Fault, Schema};
-use run_spool::{PlainSpool, Spool};
 use prefix_spool::FaultySpool;
+use run_spool::{PlainSpool, Spool};
 use std::alloc::Global;
 use std::marker::Brand;
 
@@ -42,7 +42,7 @@ fn stock_of(turns: &[Turn<'_>]) -> Stock {
 }
 
 /// How the replies go: to the end, or to one that memory was wanted for.
-fn replies_go<S: Made, T: Table>(
+fn replies_go<S: Made, T: TableRings>(
     stand: &mut Stand<S, T>,
     turns: &[Turn<'_>],
     replies: Vec<Reply>,
@@ -64,7 +64,7 @@ fn replies_go<S: Made, T: Table>(
 }
 
 /// The same, and then the records behind them.
-fn goes_behind<S: Made, T: Table>(
+fn goes_behind<S: Made, T: TableRings>(
     stand: &mut Stand<S, T>,
     alloc: Global,
     turns: &[Turn<'_>],
@@ -87,7 +87,7 @@ fn goes_behind<S: Made, T: Table>(
 }
 
 /// Does a list of events on a table, beside these spools, which come back ended.
-fn run_on<S: Spool, T: Table>(
+fn run_on<S: Spool, T: TableRings>(
     alloc: Global,
     parts: Parts,
     spools: Vec<S>,
@@ -102,7 +102,7 @@ fn run_on<S: Spool, T: Table>(
     run_events(alloc, live, ends, spools, events)
 }
 
-fn listed_on<S: Made, T: Table>(
+fn listed_on<S: Made, T: TableRings>(
     alloc: Global,
     parts: Parts,
     spools: Vec<S>,

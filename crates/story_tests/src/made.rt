@@ -5,8 +5,8 @@ use crate::list_spool::{Free, ListSpool};
 use crate::place::{Place, coming_to};
 use crate::story::Stock;
 use keybytes::{Fault, Key, Pair, Rid};
-use run_spool::{PlainSpool, Spool, give_up};
 use prefix_spool::FaultySpool;
+use run_spool::{PlainSpool, Spool, give_up};
 use spool_ledger::Pool;
 use std::alloc::Global;
 

@@ -1,8 +1,8 @@
 //! Where in a build's spools a fault comes.
 
 use keybytes::Fault;
-use script::Command;
 use prefix_spool::Coming;
+use script::Command;
 
 /// One place where a spool can fail.
 #[derive(Clone, Copy)]

@@ -6,14 +6,14 @@ use crate::spoiled::gives_up;
 use crate::stand::Stand;
 use crate::telling::{Went, on_if};
 use crate::turns::Turn;
-use builder_core::{Event, Table};
+use builder_core::{Event, TableRings};
 use keybytes::Fault;
 use replay::Answer;
 use script::Command;
 use std::alloc::Global;
 
 /// Whether a transaction may begin just where the story lets it. One that begins ends at once, and leaves no record.
-fn is_fenced_so<S: Made, T: Table>(stand: &mut Stand<S, T>) -> bool {
+fn is_fenced_so<S: Made, T: TableRings>(stand: &mut Stand<S, T>) -> bool {
     match stand.step(Event::Begin) {
         Answer::Refused {
             fault: Fault::Fenced,
@@ -31,7 +31,7 @@ fn is_fenced_so<S: Made, T: Table>(stand: &mut Stand<S, T>) -> bool {
 }
 
 /// The event has changed nothing, and is asked for again.
-fn is_unchanged<S: Made, T: Table>(
+fn is_unchanged<S: Made, T: TableRings>(
     stand: &mut Stand<S, T>,
     alloc: Global,
     turn: &Turn<'_>,
@@ -53,7 +53,7 @@ fn is_rest(again: &Answer, turn: &Turn<'_>) -> bool {
 }
 
 /// The event has applied some entries at most, and is asked for again.
-fn is_half_done<S: Made, T: Table>(
+fn is_half_done<S: Made, T: TableRings>(
     stand: &mut Stand<S, T>,
     alloc: Global,
     turn: &Turn<'_>,
@@ -67,7 +67,7 @@ fn is_half_done<S: Made, T: Table>(
 }
 
 /// The event has spoiled the build.
-fn is_spoiled<S: Made, T: Table>(
+fn is_spoiled<S: Made, T: TableRings>(
     stand: &mut Stand<S, T>,
     alloc: Global,
     before: &Seen,
@@ -77,7 +77,7 @@ fn is_spoiled<S: Made, T: Table>(
 }
 
 /// What is left once memory was wanted.
-fn goes_on<S: Made, T: Table>(
+fn goes_on<S: Made, T: TableRings>(
     stand: &mut Stand<S, T>,
     alloc: Global,
     turn: &Turn<'_>,
@@ -99,7 +99,7 @@ fn goes_on<S: Made, T: Table>(
 }
 
 /// Tells a record of a story in which memory was wanted so often before, and may be wanted once.
-pub fn goes_where_short<S: Made, T: Table>(
+pub fn goes_where_short<S: Made, T: TableRings>(
     stand: &mut Stand<S, T>,
     alloc: Global,
     turn: &Turn<'_>,

@@ -1,6 +1,6 @@
 //! Tables of two columns of numbers, and indexes on them.
 
-use builder_core::{Dealing, Live, Pair, Parts, Plan, Table};
+use builder_core::{Dealing, Live, Pair, Parts, Plan, TableRings};
 use crew::TableParts;
 use heap_table::Heap;
 use keybytes::{Cell, Fault, KeyCol, KeySpec, Kind, Row, Schema};
@@ -115,7 +115,11 @@ pub fn shared_table(alloc: Global, rows: Rows) -> Result<TableParts, Fault> {
 }
 
 /// The pairs that an index would have of the table's rows.
-pub fn rest_of<T: Table>(alloc: Global, live: &mut Live<T>, on: On) -> Result<Vec<Pair>, Fault> {
+pub fn rest_of<T: TableRings>(
+    alloc: Global,
+    live: &mut Live<T>,
+    on: On,
+) -> Result<Vec<Pair>, Fault> {
     let spec = spec(alloc, on)?;
     if !spec.is_of(live.heap().schema()) {
         return Err(Fault::BadColumn);

@@ -2,7 +2,7 @@
 
 use crate::made::Made;
 use crate::stand::Stand;
-use builder_core::{Core, Entry, Event, Op, ReadyIndex, Table};
+use builder_core::{Core, Entry, Event, Op, ReadyIndex, TableRings};
 use keybytes::{Cell, Fault, Key, Rid};
 use replay::Answer;
 use run_spool::Spool;
@@ -68,7 +68,7 @@ impl Sum {
 }
 
 /// Why a transaction can't take away a row that isn't there: it isn't open, or is being undone; or just for that.
-fn add_txns<S: Made, T: Table>(sum: &mut Sum, stand: &mut Stand<S, T>) {
+fn add_txns<S: Made, T: TableRings>(sum: &mut Sum, stand: &mut Stand<S, T>) {
     for txn in 1..=TXNS {
         let rid = NOWHERE;
         if let Answer::Refused { fault } = stand.step(Event::Delete { txn, rid }) {
@@ -79,7 +79,7 @@ fn add_txns<S: Made, T: Table>(sum: &mut Sum, stand: &mut Stand<S, T>) {
 }
 
 /// Adds the row at a RID, or that there is none.
-fn add_row<S: Made, T: Table>(
+fn add_row<S: Made, T: TableRings>(
     sum: &mut Sum,
     stand: &mut Stand<S, T>,
     rid: Rid,
@@ -98,7 +98,7 @@ fn add_row<S: Made, T: Table>(
     Ok(())
 }
 
-fn add_rows<S: Made, T: Table>(sum: &mut Sum, stand: &mut Stand<S, T>) -> Result<(), Fault> {
+fn add_rows<S: Made, T: TableRings>(sum: &mut Sum, stand: &mut Stand<S, T>) -> Result<(), Fault> {
     for page in 0..stand.core().live().heap().pages() {
         for slot in 0..SLOTS {
             add_row(sum, stand, Rid { page, slot })?;
@@ -118,7 +118,7 @@ fn add_index(sum: &mut Sum, index: &ReadyIndex) {
     }
 }
 
-fn add_core<S: Spool, T: Table>(sum: &mut Sum, core: &Core<S, T>) {
+fn add_core<S: Spool, T: TableRings>(sum: &mut Sum, core: &Core<S, T>) {
     let heap = core.live().heap();
     sum.add(heap.records() as u64);
     sum.add(heap.pages() as u64);
@@ -140,7 +140,7 @@ fn word_of(entry: &Entry) -> u64 {
     sum.0
 }
 
-fn words<S: Spool, T: Table>(
+fn words<S: Spool, T: TableRings>(
     core: &Core<S, T>,
     alloc: Global,
     index: usize,
@@ -154,7 +154,10 @@ fn words<S: Spool, T: Table>(
     Ok(words)
 }
 
-fn look_once<S: Made, T: Table>(stand: &mut Stand<S, T>, alloc: Global) -> Result<Seen, Fault> {
+fn look_once<S: Made, T: TableRings>(
+    stand: &mut Stand<S, T>,
+    alloc: Global,
+) -> Result<Seen, Fault> {
     let mut sum = Sum(0xcbf2_9ce4_8422_2325);
     add_rows(&mut sum, stand)?;
     add_txns(&mut sum, stand);
@@ -167,7 +170,7 @@ fn look_once<S: Made, T: Table>(stand: &mut Stand<S, T>, alloc: Global) -> Resul
 }
 
 /// How all stands now. What is refused for want of memory is looked at once more.
-pub fn look<S: Made, T: Table>(stand: &mut Stand<S, T>, alloc: Global) -> Result<Seen, Fault> {
+pub fn look<S: Made, T: TableRings>(stand: &mut Stand<S, T>, alloc: Global) -> Result<Seen, Fault> {
     match look_once(stand, alloc) {
         Err(_) => look_once(stand, alloc),
         told => told,

@@ -2,7 +2,7 @@
 
 use crate::made::Made;
 use crate::stand::Stand;
-use builder_core::{Event, Table};
+use builder_core::{Event, TableRings};
 use keybytes::Fault;
 use replay::Answer;
 
@@ -28,7 +28,7 @@ pub fn is_refused_for(answer: &Answer, fault: Fault) -> bool {
 }
 
 /// Whether each kind of work is refused for that fault.
-fn is_all_refused<S: Made, T: Table>(stand: &mut Stand<S, T>, fault: Fault) -> bool {
+fn is_all_refused<S: Made, T: TableRings>(stand: &mut Stand<S, T>, fault: Fault) -> bool {
     for kind in 0..KINDS {
         if !is_refused_for(&stand.step(work(kind)), fault) {
             return false;
@@ -38,13 +38,13 @@ fn is_all_refused<S: Made, T: Table>(stand: &mut Stand<S, T>, fault: Fault) -> b
 }
 
 /// Whether the build can be abandoned, and once.
-fn is_abandoned<S: Made, T: Table>(stand: &mut Stand<S, T>) -> bool {
+fn is_abandoned<S: Made, T: TableRings>(stand: &mut Stand<S, T>) -> bool {
     let is_first = matches!(stand.step(Event::Abandon), Answer::Abandoned { pages: 0 });
     is_first && is_refused_for(&stand.step(Event::Abandon), Fault::NoBuild)
 }
 
 /// Whether the build is spoiled by that fault until it is abandoned, and leaves neither an index nor a page.
-pub fn gives_up<S: Made, T: Table>(stand: &mut Stand<S, T>, fault: Fault) -> bool {
+pub fn gives_up<S: Made, T: TableRings>(stand: &mut Stand<S, T>, fault: Fault) -> bool {
     is_all_refused(stand, fault)
         && stand.is_as_told()
         && is_abandoned(stand)

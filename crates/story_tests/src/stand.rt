@@ -5,7 +5,7 @@ use crate::listing::{entry_lines, pair_lines, shared_lines};
 use crate::made::{Made, come_back};
 use crate::place::Place;
 use crate::story::Stock;
-use builder_core::{Core, Ends, Event, Live, Pair, Reply, Table};
+use builder_core::{Core, Ends, Event, Live, Pair, Reply, TableRings};
 use heap_log::{Outcome, Verdicts};
 use keybytes::{Fault, KeySpec, Rid, Row};
 use replay::Answer;
@@ -14,7 +14,7 @@ use script::{Command, Spec, Start};
 use std::alloc::Global;
 
 /// A table with its core. It notes what the answers mean for the build, the fence and the ready indexes.
-pub struct Stand<S: Spool, T: Table> {
+pub struct Stand<S: Spool, T: TableRings> {
     alloc: Global,
     core: Core<S, T>,
     /// The spools that the core has.
@@ -57,7 +57,7 @@ fn leased_by<S: Spool>(spools: &[S]) -> usize {
     leased
 }
 
-impl<S: Made, T: Table> Stand<S, T> {
+impl<S: Made, T: TableRings> Stand<S, T> {
     /// The table with these spools.
     pub fn new(
         alloc: Global,

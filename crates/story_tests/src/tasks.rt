@@ -10,12 +10,12 @@ use crate::story::{Kind, Story};
 use crate::telling::{Mode, told_otherwise};
 use crate::turns::{Turn, turns_of};
 use crate::writing::written;
-use builder_core::{Parts, Table};
+use builder_core::{Parts, TableRings};
 use keybytes::Fault;
+use prefix_spool::FaultySpool;
 use replay::{replay, table_parts};
 use run_spool::PlainSpool;
 use script::{Script, Start};
-use prefix_spool::FaultySpool;
 use std::alloc::Global;
 use std::marker::Brand;
 
@@ -76,7 +76,7 @@ fn place_of(mode: Mode) -> Option<Place> {
 
 /// The number of the first record that is told otherwise on a table under its name; 0 where the story ends otherwise,
 /// or a spool doesn't come back.
-fn told_on<S: Made, T: Table>(
+fn told_on<S: Made, T: TableRings>(
     alloc: Global,
     parts: Parts,
     spools: Vec<S>,

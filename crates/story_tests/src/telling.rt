@@ -6,7 +6,7 @@ use crate::refused::goes_where_short;
 use crate::spoiled::{gives_up, is_refused_for};
 use crate::stand::Stand;
 use crate::turns::Turn;
-use builder_core::{Event, Table};
+use builder_core::{Event, TableRings};
 use keybytes::Fault;
 use replay::Answer;
 use script::Command;
@@ -76,7 +76,7 @@ fn is_answer(
 }
 
 /// Tells one record, in a story in which so many faults came before.
-fn goes<S: Made, T: Table>(
+fn goes<S: Made, T: TableRings>(
     stand: &mut Stand<S, T>,
     alloc: Global,
     turn: &Turn<'_>,
@@ -104,7 +104,7 @@ fn goes<S: Made, T: Table>(
 }
 
 /// The number of the first record that is told otherwise, or behind which the core isn't as it is told.
-fn first_otherwise<S: Made, T: Table>(
+fn first_otherwise<S: Made, T: TableRings>(
     stand: &mut Stand<S, T>,
     alloc: Global,
     turns: &[Turn<'_>],
@@ -122,7 +122,7 @@ fn first_otherwise<S: Made, T: Table>(
 }
 
 /// Whether an abandon is refused exactly where no build runs.
-fn is_stopped<S: Made, T: Table>(stand: &mut Stand<S, T>, running: &mut u32) -> bool {
+fn is_stopped<S: Made, T: TableRings>(stand: &mut Stand<S, T>, running: &mut u32) -> bool {
     let was_running = stand.is_running;
     *running = running.saturating_add(u32::from(was_running));
     let is_so = match stand.step(Event::Abandon) {
@@ -133,7 +133,7 @@ fn is_stopped<S: Made, T: Table>(stand: &mut Stand<S, T>, running: &mut u32) -> 
 }
 
 /// Whether all ends as it should behind the last record.
-fn is_over<S: Made, T: Table>(stand: &mut Stand<S, T>, mode: Mode, came: &mut u32) -> bool {
+fn is_over<S: Made, T: TableRings>(stand: &mut Stand<S, T>, mode: Mode, came: &mut u32) -> bool {
     match mode {
         Mode::Plain | Mode::Short => true,
         Mode::Faulted(place, true) => *came == 1 && gives_up(stand, place.fault()),
@@ -144,7 +144,7 @@ fn is_over<S: Made, T: Table>(stand: &mut Stand<S, T>, mode: Mode, came: &mut u3
 
 /// The number of the first record that is told otherwise; 0 where the story ends otherwise. Counts the faults that
 /// came, or the builds that were stopped.
-pub fn told_otherwise<S: Made, T: Table>(
+pub fn told_otherwise<S: Made, T: TableRings>(
     stand: &mut Stand<S, T>,
     alloc: Global,
     turns: &[Turn<'_>],

@@ -18,7 +18,7 @@ ghost use Rattle.build_events.specs.BuildSteps.{Starts, Scans, OnBuild, start_re
 ghost use Rattle.keybytes.specs.Schemas.{same_kinds};
 
 use crate::parts::{INDEXES_MAX, WORKERS_MAX};
-use crate::{Building, Live, Plan, Table};
+use crate::{Building, Live, Plan, TableRings};
 use building::{Work, prepare};
 use heap_table::PageImage;
 use keybytes::{Fault, KeySpec, Schema, copied_specs};
@@ -42,7 +42,7 @@ fn are_of(specs: &[KeySpec], schema: &Schema) -> bool
     true
 }
 
-impl<T: Table> Live<T> {
+impl<T: TableRings> Live<T> {
     /// A build of the plan's indexes starts, and every ring is emptied; answered with the number of pages that it reads.
     /// [`Fault::BuildRunning`], [`Fault::BadCount`], [`Fault::BadColumn`], [`Fault::BadRanges`], [`Fault::SpoolNotEmpty`].
     pub fn start<S: Spool>(

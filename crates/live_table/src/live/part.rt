@@ -5,11 +5,11 @@ ghost use Rattle.live_lemmas.specs.Builds.{core_state, SideIsLooked, SeesSideAt,
 ghost use Rattle.live_lemmas.specs.Switching.{IsUnspoiled, IsFedAt, IsOfBuild, IsPartOf, IsScannedWhole, IsTakenIn, SidesAreLooked};
 ghost use Rattle.live_lemmas.specs.Switching.{early_cause, HaveAll, IsOnlyLookedAt, KeepsOut};
 
-use crate::{Building, Live, Table};
+use crate::{Building, Live, TableRings};
 use keybytes::{Fault, KeySpec};
 use run_spool::Spool;
 
-impl<T: Table> Live<T> {
+impl<T: TableRings> Live<T> {
     /// Looks whether what stands beside the table can be taken in, from which it may have been kept apart: it is of the build that runs,
     /// all was copied and taken, and put in order where that is asked. [`Fault::NoBuild`], the fault of a spoiled build,
     /// [`Fault::NotScanned`], [`Fault::NotLoaded`], [`Fault::NotSealed`]. Takes no memory.

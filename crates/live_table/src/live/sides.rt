@@ -8,12 +8,12 @@ ghost use Rattle.table_scan.specs.SideFiles.{AreFedEntries, side_refusal};
 ghost use Rattle.build_events.specs.BuildSteps.{Feeds, Applies, AppliesSome};
 ghost use Rattle.build_events.specs.declared.event.Event.{Event};
 
-use crate::{Building, Live, Table};
+use crate::{Building, Live, TableRings};
 use keybytes::Fault;
 use run_spool::Spool;
 use side_file::RING_ENTRIES;
 
-impl<T: Table> Live<T> {
+impl<T: TableRings> Live<T> {
     /// Moves the next entries of an index's side-file into its ring, and answers how many: at most `most`, a ring's 256, and as many
     /// as this end of the ring knows places for. [`Fault::NoBuild`], [`Fault::BadCount`]. Takes no memory.
     pub fn feed(&mut self, index: usize, most: usize) -> Result<usize, Fault>

@@ -18,7 +18,7 @@ ghost use Rattle.build_events.specs.Verdicts.{outcome, outcomes};
 ghost use Rattle.build_events.specs.Workers.{all_unapplied};
 ghost use Rattle.build_events.specs.declared.event.Event.{Event};
 
-use crate::{Building, Live, Switched, Table};
+use crate::{Building, Live, Switched, TableRings};
 use building::IndexWork;
 use heap_log::{LogRec, Outcome, Verdicts};
 use heap_table::Heap;
@@ -33,7 +33,7 @@ use unique_verdict::Verdict;
 /// The most entries of all side-files that a switch applies.
 const SWITCH_MAX: usize = 1024;
 
-impl<T: Table> Live<T> {
+impl<T: TableRings> Live<T> {
     /// How many entries of an index's side-file were not applied yet.
     fn unapplied_of<S: Spool>(&self, index: usize, building: &Building<S, T>) -> usize
         requires works { StandsBeside self.now building.now }

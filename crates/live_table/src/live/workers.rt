@@ -15,12 +15,12 @@ ghost use Rattle.build_events.specs.Steps.{spoiled_by};
 ghost use Rattle.build_events.specs.Workers.{index_at};
 ghost use Rattle.build_events.specs.declared.event.Event.{Event};
 
-use crate::{Building, Live, Table};
+use crate::{Building, Live, TableRings};
 use keybytes::Fault;
 use page_workers::{RING_IMAGES, Turn};
 use run_spool::Spool;
 
-impl<T: Table> Live<T> {
+impl<T: TableRings> Live<T> {
     /// How many copies wait for a worker.
     fn look<S: Spool>(&mut self, worker: usize, building: &mut Building<S, T>) -> usize
         requires { worker < length building.old.workers }

@@ -9,11 +9,11 @@ ghost use Rattle.live_lemmas.specs.Builds.{StandsBeside};
 ghost use Rattle.live_lemmas.specs.Putting.{KeepsRings};
 ghost use Rattle.build_events.specs.Steps.{row_refusal, change_refusal, OnHeap, OnRows};
 
-use crate::{Live, Table, changes};
+use crate::{Live, TableRings, changes};
 use heap_table::Undone;
 use keybytes::{Fault, Rid, Row};
 
-impl<T: Table> Live<T> {
+impl<T: TableRings> Live<T> {
     /// The next transaction begins. [`Fault::TooManyTxns`].
     pub fn begin(&mut self) -> Result<u64, Fault>
         ensures begun { Answered (begin_refusal self.old.state.heap) (OnHeap Begins) self.old.state result self.new.state }

@@ -23,13 +23,13 @@ pub map_indices-told-requires-sync-F : goal.map_indices-told-requires-sync-F
 map_indices-told-requires-sync-F g c = λ κs known.
     let s : IsSync (TupleAt [] (ShrRef (named 6) κs.1.1.1.1.1.1.0 (param 1 g.row.R)
     ∷ Global.the_row
-    ∷ ShrRef (named 7) κs.1.1.1.1.1.1.1.0 (Table.the_row (param 0 g.row.T) g.T.Opened g.T.Named g.T.Table)
+    ∷ ShrRef (named 7) κs.1.1.1.1.1.1.1.0 (Table.the_row (param 0 g.row.T) g.T.Opened g.T.Named g.T.TableRings)
     ∷ ShrRef (named 8) κs.1.1.1.1.1.1.1.1.0 Options.the_row
     ∷ ShrRef (named 9) κs.1.1.1.1.1.1.1.1.1.0 Course.the_row
     ∷ Filled.the_row
     ∷ [])) = captured_sync [] (ShrRef (named 6) κs.1.1.1.1.1.1.0 (param 1 g.row.R)
     ∷ Global.the_row
-    ∷ ShrRef (named 7) κs.1.1.1.1.1.1.1.0 (Table.the_row (param 0 g.row.T) g.T.Opened g.T.Named g.T.Table)
+    ∷ ShrRef (named 7) κs.1.1.1.1.1.1.1.0 (Table.the_row (param 0 g.row.T) g.T.Opened g.T.Named g.T.TableRings)
     ∷ ShrRef (named 8) κs.1.1.1.1.1.1.1.1.0 Options.the_row
     ∷ ShrRef (named 9) κs.1.1.1.1.1.1.1.1.1.0 Course.the_row
     ∷ Filled.the_row
@@ -38,7 +38,7 @@ map_indices-told-requires-sync-F g c = λ κs known.
       (
         search (sendable, crosses) depth 10,
         (
-          shr_sync _ _ _ (table_sync (param 0 g.row.T) g.T.Opened g.T.Named g.T.Table),
+          shr_sync _ _ _ (table_sync (param 0 g.row.T) g.T.Opened g.T.Named g.T.TableRings),
           (
             search (options.the_sync, sendable) depth 10,
             (search (course.the_sync, sendable) depth 10, (search (filled.the_sync, sendable) depth 10, tt)),
@@ -47,6 +47,6 @@ map_indices-told-requires-sync-F g c = λ κs known.
       ),
     ) in
     param_sync 3
-    (lts.arg-0-3 g.row.T g.row.R g.T.laws g.R.laws g.T.Opened g.T.Opened-dict g.T.Named g.T.Named-dict g.T.Table g.T.Table-dict
+    (lts.arg-0-3 g.row.T g.row.R g.T.laws g.R.laws g.T.Opened g.T.Opened-dict g.T.Named g.T.Named-dict g.T.TableRings g.T.TableRings-dict
     g.R.Threads g.R.Threads-dict g.R.Wait g.R.Wait-dict g.R.Clock g.R.Clock-dict κs)
     (record { shared = s.shared })

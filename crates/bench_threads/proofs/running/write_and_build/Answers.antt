@@ -22,13 +22,13 @@ pub join-requires-send-F : goal.join-requires-send-F
 join-requires-send-F g c = λ κs known.
     let s : IsSend (TupleAt [] (ShrRef (named 6) κs.1.1.1.1.1.1.0 (param 1 g.row.R)
     ∷ Global.the_row
-    ∷ ShrRef (named 7) κs.1.1.1.1.1.1.1.0 (Table.the_row (param 0 g.row.T) g.T.Opened g.T.Named g.T.Table)
+    ∷ ShrRef (named 7) κs.1.1.1.1.1.1.1.0 (Table.the_row (param 0 g.row.T) g.T.Opened g.T.Named g.T.TableRings)
     ∷ ShrRef (named 8) κs.1.1.1.1.1.1.1.1.0 Options.the_row
     ∷ ShrRef (named 9) κs.1.1.1.1.1.1.1.1.1.0 Course.the_row
     ∷ Filled.the_row
     ∷ [])) = captured_send [] (ShrRef (named 6) κs.1.1.1.1.1.1.0 (param 1 g.row.R)
     ∷ Global.the_row
-    ∷ ShrRef (named 7) κs.1.1.1.1.1.1.1.0 (Table.the_row (param 0 g.row.T) g.T.Opened g.T.Named g.T.Table)
+    ∷ ShrRef (named 7) κs.1.1.1.1.1.1.1.0 (Table.the_row (param 0 g.row.T) g.T.Opened g.T.Named g.T.TableRings)
     ∷ ShrRef (named 8) κs.1.1.1.1.1.1.1.1.0 Options.the_row
     ∷ ShrRef (named 9) κs.1.1.1.1.1.1.1.1.1.0 Course.the_row
     ∷ Filled.the_row
@@ -37,7 +37,7 @@ join-requires-send-F g c = λ κs known.
       (
         search (sendable, crosses) depth 10,
         (
-          shr_send _ _ _ (table_sync (param 0 g.row.T) g.T.Opened g.T.Named g.T.Table),
+          shr_send _ _ _ (table_sync (param 0 g.row.T) g.T.Opened g.T.Named g.T.TableRings),
           (
             search (options.the_sync, sendable) depth 10,
             (search (course.the_sync, sendable) depth 10, (search (filled.the_send, sendable) depth 10, tt)),
@@ -46,6 +46,6 @@ join-requires-send-F g c = λ κs known.
       ),
     ) in
     param_send 1
-    (lts.arg-0-1 g.row.T g.row.R g.T.laws g.R.laws g.T.Opened g.T.Opened-dict g.T.Named g.T.Named-dict g.T.Table g.T.Table-dict
+    (lts.arg-0-1 g.row.T g.row.R g.T.laws g.R.laws g.T.Opened g.T.Opened-dict g.T.Named g.T.Named-dict g.T.TableRings g.T.TableRings-dict
     g.R.Threads g.R.Threads-dict g.R.Wait g.R.Wait-dict g.R.Clock g.R.Clock-dict κs)
     (record { owned = s.owned; leaving = s.leaving })

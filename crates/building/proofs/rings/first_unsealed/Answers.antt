@@ -30,7 +30,7 @@ is_unsealed-requires-clause-few g c =
     omega (arith, long, many, few)
 
 pub is_unsealed-requires-clause-at : goal.is_unsealed-requires-clause-at
-is_unsealed-requires-clause-at g c = at_looked g.T.Table.pages c.args.workers.now.items c.loop-worker.workers.items c.loop-worker.invariant.looked.same c.requires.at
+is_unsealed-requires-clause-at g c = at_looked g.T.TableRings.pages c.args.workers.now.items c.loop-worker.workers.items c.loop-worker.invariant.looked.same c.requires.at
 
 pub returns-then-is_unsealed-clause-looked : goal.returns-then-is_unsealed-clause-looked
 returns-then-is_unsealed-clause-looked g c =

@@ -19,7 +19,7 @@ waiting-requires g c =
     let less : c.args.worker < length pages = let there = c.requires.there in let few = c.requires.few in omega (arith, there, few) in
     let there : slice_get pages c.args.worker ≡ Some put = at_index pages c.args.worker put c.index_mut-2.ensures.value less in
     let here : slice_get workers c.args.worker ≡ Some it = at_index workers c.args.worker it c.index_mut.ensures.value c.requires.there in
-    let table : slice_get g.T.Table.pages c.args.worker ≡ Some put.ring =
+    let table : slice_get g.T.TableRings.pages c.args.worker ≡ Some put.ring =
     ap (λ (rings : List RingId). slice_get rings c.args.worker) (sym c.requires.rings) ∙ map_at (λ (e : PutEnd Copied). e.ring) pages c.args.worker put there in
     same_Some put.ring it.intake.end.ring (sym table ∙ c.requires.at c.args.worker it here)
 

@@ -7,7 +7,7 @@ use Rattle.crew.proofs.online_build.build_started.Goals as goal
 
 pub gather-building-requires : goal.gather-building-requires
 gather-building-requires g c =
-    all_back g.T.Table.pages c.lend-workers.result.1 c.lend-workers.result.0.items c.scan_all-workers.result.0.items c.scan_all-workers.ensures.back c.lend-workers.ensures.back
+    all_back g.T.TableRings.pages c.lend-workers.result.1 c.lend-workers.result.0.items c.scan_all-workers.result.0.items c.scan_all-workers.ensures.back c.lend-workers.ensures.back
 
 pub returns-in-Err-clause-stakes : goal.returns-in-Err-clause-stakes
 returns-in-Err-clause-stakes g c =

@@ -6,7 +6,7 @@ use Rattle.kept_table.proofs.kept.stepped.Goals as goal
 
 pub returns-clause-step : goal.returns-clause-step
 returns-clause-step g c =
-    subst (λ (after : CoreState). Step c.args.table.core c.args.event c.step-reply.result after) (sym c.shut.ensures.core)
+    subst (λ (after : CoreState). Step c.args.table.core c.args.event c.step-reply.result after) (sym c.unname.ensures.core)
     (subst (λ (before : CoreState). Step before c.args.event c.step-reply.result c.step-reply.new.self) c.open-named.ensures c.step-reply.ensures.step)
 
 pub returns-clause-full : goal.returns-clause-full

@@ -18,24 +18,24 @@ pub spawn_with-requires-send-F : goal.spawn_with-requires-send-F
 spawn_with-requires-send-F g c = λ κs known.
     let s : IsSend (TupleAt [] (ShrRef (named 6) κs.1.1.1.1.1.1.0 (param 1 g.row.R)
     ∷ Global.the_row
-    ∷ ShrRef (named 7) κs.1.1.1.1.1.1.1.0 (Table.the_row (param 0 g.row.T) g.T.Opened g.T.Named g.T.Table)
+    ∷ ShrRef (named 7) κs.1.1.1.1.1.1.1.0 (Table.the_row (param 0 g.row.T) g.T.Opened g.T.Named g.T.TableRings)
     ∷ SessionScript.the_row
     ∷ [])) = captured_send []
     (ShrRef (named 6) κs.1.1.1.1.1.1.0 (param 1 g.row.R)
     ∷ Global.the_row
-    ∷ ShrRef (named 7) κs.1.1.1.1.1.1.1.0 (Table.the_row (param 0 g.row.T) g.T.Opened g.T.Named g.T.Table)
+    ∷ ShrRef (named 7) κs.1.1.1.1.1.1.1.0 (Table.the_row (param 0 g.row.T) g.T.Opened g.T.Named g.T.TableRings)
     ∷ SessionScript.the_row
     ∷ []) (
       search (c.type_bounds.sync-R, sendable) depth 10,
       (
         search (sendable, crosses) depth 10,
         (
-          shr_send _ _ _ (table_sync (param 0 g.row.T) g.T.Opened g.T.Named g.T.Table),
+          shr_send _ _ _ (table_sync (param 0 g.row.T) g.T.Opened g.T.Named g.T.TableRings),
           (search (script.the_send, sendable) depth 20, tt),
         ),
       ),
     ) in
     param_send 2
-    (lts.arg-3-2 g.row.T g.row.R g.T.laws g.R.laws g.T.Opened g.T.Opened-dict g.T.Named g.T.Named-dict g.T.Table
-    g.T.Table-dict g.R.Threads g.R.Threads-dict g.R.Wait g.R.Wait-dict κs)
+    (lts.arg-3-2 g.row.T g.row.R g.T.laws g.R.laws g.T.Opened g.T.Opened-dict g.T.Named g.T.Named-dict g.T.TableRings
+    g.T.TableRings-dict g.R.Threads g.R.Threads-dict g.R.Wait g.R.Wait-dict κs)
     (record { owned = s.owned; leaving = s.leaving })

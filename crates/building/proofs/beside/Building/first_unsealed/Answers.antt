@@ -18,7 +18,7 @@ laws_of-requires g c =
     let new = c.first_unsealed-unsealed.new.workers.items in
     let same = c.first_unsealed-unsealed.ensures.looked.same in
     let ends = ends_same _ _ old new c.self.inside.idle.items _ c.self.invariant.0 (rings_looked old new same) in
-    subst (All (HasItsRing g.T.Table.pages)) (sym c.deref.ensures.value)
+    subst (All (HasItsRing g.T.TableRings.pages)) (sym c.deref.ensures.value)
     (their_rings _ _ new c.self.inside.idle.items _ ends (numbered_looked old new same c.self.invariant.7))
 
 pub invariant_of-self : goal.invariant_of-self

@@ -10,7 +10,7 @@ use Rattle.building.proofs.beside.Building.hand_over.Goals as goal
 
 pub laws_of-requires : goal.laws_of-requires
 laws_of-requires g c =
-    subst (All (HasItsRing g.T.Table.pages)) (sym c.deref.ensures.value) (their_rings _ _ c.self.inside.workers.items c.self.inside.idle.items _ c.self.invariant.0 c.self.invariant.7)
+    subst (All (HasItsRing g.T.TableRings.pages)) (sym c.deref.ensures.value) (their_rings _ _ c.self.inside.workers.items c.self.inside.idle.items _ c.self.invariant.0 c.self.invariant.7)
 
 pub invariant_of-self : goal.invariant_of-self
 invariant_of-self g c =
@@ -23,7 +23,7 @@ invariant_of-self g c =
     let all = none_away old new (map value spools.items) is in
     let seen : c.deref.result.now ≡ old = c.deref.ensures.value in
     let kept = handed_over_kept c.args.self.now _ c.in-Some.work _ c.self.view_is c.in-Some.is c.work.view_is c.requires
-    (subst (All (KeepsLaws g.T.Table.pages)) seen c.laws_of.ensures)
+    (subst (All (KeepsLaws g.T.TableRings.pages)) seen c.laws_of.ensures)
     c.self.invariant.6 new (map value spools.items) is c.bring_home.ensures.spools in (
       ends_kept old new _ _ c.self.inside.idle.items _ is c.self.invariant.0,
       c.self.invariant.1,

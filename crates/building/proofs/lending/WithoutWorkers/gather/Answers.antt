@@ -25,8 +25,8 @@ invariant_of-result g c =
     let same : c.requires.work ≡ work =
     same_Some c.requires.work work (sym c.requires.runs ∙ sym (ap (λ (b : BuildingValue). b.work) c.self.view_is)) in
     let all : length workers + length idle ≡ 16 = let there = ap (λ (b : BuildingValue). length b.idle) c.self.view_is in omega (arith, c.requires.all, there) in
-    let back : (k : ℕ) (worker : WorkerValue) → slice_get workers k ≡ Some worker → IsBack g.T.Table.pages work.build work.specs k worker =
-    subst (λ (w : WorkValue). (k : ℕ) (worker : WorkerValue) → slice_get workers k ≡ Some worker → IsBack g.T.Table.pages w.build w.specs k worker) same c.requires.each in
+    let back : (k : ℕ) (worker : WorkerValue) → slice_get workers k ≡ Some worker → IsBack g.T.TableRings.pages work.build work.specs k worker =
+    subst (λ (w : WorkValue). (k : ℕ) (worker : WorkerValue) → slice_get workers k ≡ Some worker → IsBack g.T.TableRings.pages w.build w.specs k worker) same c.requires.each in
     let none : map value c.self.inside.spools.items ≡ [] = ap (map value) c.self.invariant.1 in
     let many = ap (λ (l : List SpoolValue). length (all_spools workers l)) none ∙ spools_many work.specs workers (λ k worker at. (back k worker at).own) in
     let place : 16 - length idle ≡ length workers = omega (arith, all) in

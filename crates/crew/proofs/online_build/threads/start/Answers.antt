@@ -20,14 +20,14 @@ pub spawn_with-requires-send-F : goal.spawn_with-requires-send-F
 spawn_with-requires-send-F g c = λ κs known.
     let s : IsSend (TupleAt [] (ShrRef (named 6) κs.1.1.1.1.1.1.0 (param 3 g.row.R)
     ∷ Global.the_row
-    ∷ ShrRef (named 7) κs.1.1.1.1.1.1.1.0 (Table.the_row (param 1 g.row.T) g.T.Opened g.T.Named g.T.Table)
+    ∷ ShrRef (named 7) κs.1.1.1.1.1.1.1.0 (Table.the_row (param 1 g.row.T) g.T.Opened g.T.Named g.T.TableRings)
     ∷ ShrRef (named 8) κs.1.1.1.1.1.1.1.1.0 RangeQueue.the_row
     ∷ ShrRef (named 9) κs.1.1.1.1.1.1.1.1.1.0 (param 2 g.row.G)
     ∷ Worker.the_row (param 0 g.row.S) g.S.Spool
     ∷ [])) = captured_send []
     (ShrRef (named 6) κs.1.1.1.1.1.1.0 (param 3 g.row.R)
     ∷ Global.the_row
-    ∷ ShrRef (named 7) κs.1.1.1.1.1.1.1.0 (Table.the_row (param 1 g.row.T) g.T.Opened g.T.Named g.T.Table)
+    ∷ ShrRef (named 7) κs.1.1.1.1.1.1.1.0 (Table.the_row (param 1 g.row.T) g.T.Opened g.T.Named g.T.TableRings)
     ∷ ShrRef (named 8) κs.1.1.1.1.1.1.1.1.0 RangeQueue.the_row
     ∷ ShrRef (named 9) κs.1.1.1.1.1.1.1.1.1.0 (param 2 g.row.G)
     ∷ Worker.the_row (param 0 g.row.S) g.S.Spool
@@ -36,7 +36,7 @@ spawn_with-requires-send-F g c = λ κs known.
       (
         search (sendable, crosses) depth 10,
         (
-          shr_send _ _ _ (table_sync (param 1 g.row.T) g.T.Opened g.T.Named g.T.Table),
+          shr_send _ _ _ (table_sync (param 1 g.row.T) g.T.Opened g.T.Named g.T.TableRings),
           (
             search (queue.the_sync, sendable) depth 10,
             (
@@ -51,6 +51,6 @@ spawn_with-requires-send-F g c = λ κs known.
       ),
     ) in
     param_send 2
-    (lts.arg-3-2 g.row.S g.row.T g.row.G g.row.R g.S.laws g.T.laws g.G.laws g.R.laws g.S.Spool g.S.Spool-dict g.T.Opened g.T.Opened-dict g.T.Named g.T.Named-dict g.T.Table
-    g.T.Table-dict g.G.Gate g.G.Gate-dict g.R.Threads g.R.Threads-dict g.R.Wait g.R.Wait-dict g.S.Destruct-dict κs)
+    (lts.arg-3-2 g.row.S g.row.T g.row.G g.row.R g.S.laws g.T.laws g.G.laws g.R.laws g.S.Spool g.S.Spool-dict g.T.Opened g.T.Opened-dict g.T.Named g.T.Named-dict g.T.TableRings
+    g.T.TableRings-dict g.G.Gate g.G.Gate-dict g.R.Threads g.R.Threads-dict g.R.Wait g.R.Wait-dict g.S.Destruct-dict κs)
     (record { owned = s.owned; leaving = s.leaving })

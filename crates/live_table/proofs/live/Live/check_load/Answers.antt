@@ -26,7 +26,7 @@ pub returns-in-Some-unsealed-clause-refused : goal.returns-in-Some-unsealed-clau
 returns-in-Some-unsealed-clause-refused g c =
     let it = runs g (goal.at.returns-in-Some-unsealed-clause-refused g c).After-unsealed in
     let look = c.unsealed.ensures in
-    one_left _ _ _ _ _ _ c.args.index it.was c.in_ok-check.ensures it.there it.all look.looked look.put look.pages g.T.Table.pages look.laws
+    one_left _ _ _ _ _ _ c.args.index it.was c.in_ok-check.ensures it.there it.all look.looked look.put look.pages g.T.TableRings.pages look.laws
     c.in-Some-unsealed.worker c.in-Some-unsealed.ensures.unsealed
 
 pub returns-in-Some-unsealed-clause-state : goal.returns-in-Some-unsealed-clause-state
@@ -39,7 +39,7 @@ pub returns-in-None-clause-accepted : goal.returns-in-None-clause-accepted
 returns-in-None-clause-accepted g c =
     let it = runs g (goal.at.returns-in-None-clause-accepted g c).After-unsealed in
     let look = c.unsealed.ensures in
-    none_left _ _ _ _ _ _ c.args.index it.was c.in_ok-check.ensures it.there it.all look.looked look.put look.pages g.T.Table.pages look.laws
+    none_left _ _ _ _ _ _ c.args.index it.was c.in_ok-check.ensures it.there it.all look.looked look.put look.pages g.T.TableRings.pages look.laws
     c.in-None.ensures.unsealed
 
 pub returns-in-None-clause-state : goal.returns-in-None-clause-state
@@ -52,7 +52,7 @@ pub returns-in-None-clause-runs : goal.returns-in-None-clause-runs
 returns-in-None-clause-runs g c =
     let it = runs g (goal.at.returns-in-None-clause-runs g c).After-unsealed in
     let look = c.unsealed.ensures in
-    may_load _ _ _ _ _ _ c.args.index it.was c.in_ok-check.ensures it.there it.all look.looked look.put look.pages g.T.Table.pages look.laws
+    may_load _ _ _ _ _ _ c.args.index it.was c.in_ok-check.ensures it.there it.all look.looked look.put look.pages g.T.TableRings.pages look.laws
     c.in-None.ensures.unsealed
 
 pub returns-in_default-2-clause-looked : goal.returns-in_default-2-clause-looked

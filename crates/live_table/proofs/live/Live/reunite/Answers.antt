@@ -11,4 +11,4 @@ returns g c =
     let sixteen : length live.pages ≡ 16 = ap (λ (l : LiveValue). length l.pages) (sym c.self.view_is) ∙ c.self.invariant.5.sixteen in
     let eight : length live.sides ≡ 8 = ap (λ (l : LiveValue). length l.sides) (sym c.self.view_is) ∙ c.self.invariant.5.eight in
     works_again live c.args.building.now c.requires follows c.laws.ensures.pages c.laws.ensures.entries sixteen eight c.laws-2.ensures.ends.eight
-    c.laws-2.ensures.given g.T.Table.pages c.laws-2.ensures.each c.laws-2.ensures.kept
+    c.laws-2.ensures.given g.T.TableRings.pages c.laws-2.ensures.each c.laws-2.ensures.kept

@@ -41,7 +41,7 @@ invariant_of-self g c =
       c.self.invariant.2,
       subst (PagesFollow heap.schema heap.log inside.builds inside.build) (sym same) c.self.invariant.3,
       subst (AreOfBuilds inside.builds) (sym same) c.self.invariant.4,
-      put_ends_set g.T.Table.pages g.T.Table.sides inside.pages.items (put_ends inside.sides.items) c.args.worker new old c.self.invariant.5 c.index_mut.ensures.value
+      put_ends_set g.T.TableRings.pages g.T.TableRings.sides inside.pages.items (put_ends inside.sides.items) c.args.worker new old c.self.invariant.5 c.index_mut.ensures.value
           c.has_room.ensures.looked.ring,
       c.self.invariant.6,
     )
@@ -149,8 +149,8 @@ invariant_of-self-2 g c =
           c.copy_page.ensures.copy))),
       subst (AreOfBuilds inside.builds) (sym all)
           (builds_put inside.builds (all_sent pages) c.args.worker old.sent copied sent_there (omega (arith, number, put.number)) c.self.invariant.4),
-      put_ends_set g.T.Table.pages g.T.Table.sides (set pages c.args.worker looked) (put_ends inside.sides.items) c.args.worker new at
-          (put_ends_set g.T.Table.pages g.T.Table.sides pages (put_ends inside.sides.items) c.args.worker looked old c.self.invariant.5 c.index_mut.ensures.value c.has_room.ensures.looked.ring)
+      put_ends_set g.T.TableRings.pages g.T.TableRings.sides (set pages c.args.worker looked) (put_ends inside.sides.items) c.args.worker new at
+          (put_ends_set g.T.TableRings.pages g.T.TableRings.sides pages (put_ends inside.sides.items) c.args.worker looked old c.self.invariant.5 c.index_mut.ensures.value c.has_room.ensures.looked.ring)
           c.index_mut-2.ensures.value ring,
       c.self.invariant.6,
     )

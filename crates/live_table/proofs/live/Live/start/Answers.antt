@@ -163,7 +163,7 @@ invariant_of-self g c =
       pages_started heap.schema heap.log inside.builds build (all_sent c.empty_rings.new.pages.items) (ap (λ (b : BuildState). b.number) is)
           (ap (λ (b : BuildState). b.scans) is) before,
       builds_more inside.builds (all_sent c.empty_rings.new.pages.items) before,
-      put_ends_started g.T.Table.pages g.T.Table.sides inside.pages.items c.empty_rings.new.pages.items (put_ends inside.sides.items)
+      put_ends_started g.T.TableRings.pages g.T.TableRings.sides inside.pages.items c.empty_rings.new.pages.items (put_ends inside.sides.items)
           (put_ends c.empty_rings.new.sides.items) c.self.invariant.5 c.empty_rings.ensures.page_rings c.empty_rings.ensures.side_rings,
       sent_more inside.builds (put_ends c.empty_rings.new.sides.items) sent,
     )

@@ -37,7 +37,7 @@ returns-clause-refused g c =
     subst (λ (s : CoreState). IfErr c.take.result (λ fault. IsTurnRefused spool.is_full spool.runs spool.open_run spool.stake c.args.turn c.args.worker s fault (core_state live c.take.new.self)))
     (state_looked c.args.self.now live c.args.building.now building c.look.ensures.looked)
     (refused_after live building c.take.new.self may.build may.work run may.fine (put_of live may.build run.build_is c.look.ensures.put) c.args.worker c.look.result
-    c.look.ensures.sees c.args.turn spool.is_full spool.runs spool.open_run spool.stake c.look.ensures.pages g.T.Table.pages c.laws.ensures.each c.take.result c.take.ensures.stopped)
+    c.look.ensures.sees c.args.turn spool.is_full spool.runs spool.open_run spool.stake c.look.ensures.pages g.T.TableRings.pages c.laws.ensures.each c.take.result c.take.ensures.stopped)
 
 pub returns-clause-works : goal.returns-clause-works
 returns-clause-works g c =
@@ -47,7 +47,7 @@ returns-clause-works g c =
     let building : BuildingValue = c.look.new.building in
     let run = runs_looked c.args.self.now live c.args.building.now building may.build may.work c.look.ensures.looked may.runs in
     works_after_turn live building c.take.new.self may.build may.work run may.fine (put_of live may.build run.build_is c.look.ensures.put) c.args.worker c.look.result
-    c.look.ensures.sees c.args.turn spool.is_full spool.runs spool.open_run spool.stake c.look.ensures.pages g.T.Table.pages c.laws.ensures.each c.take.result c.take.ensures.did c.take.ensures.stopped
+    c.look.ensures.sees c.args.turn spool.is_full spool.runs spool.open_run spool.stake c.look.ensures.pages g.T.TableRings.pages c.laws.ensures.each c.take.result c.take.ensures.did c.take.ensures.stopped
 
 pub returns-clause-ends : goal.returns-clause-ends
 returns-clause-ends g c = ends_looked _ _ _ _ c.look.ensures.looked

@@ -5,17 +5,17 @@ ghost use Rattle.building.specs.Rings.{take_rings};
 
 use crate::beside::Building;
 use crate::work::Work;
-use page_workers::{Intake, Table, Worker};
+use page_workers::{Intake, TableRings, Worker};
 use rtrb::Consumer;
 use run_spool::Spool;
 use side_file::Entry;
 use std::marker::{Model, PhantomData};
 
 /// A [`Building`] whose name was taken off, for whoever can't keep a type. Its ends tell which rings a name has to be of for
-/// [`ShutBuilding::open`].
+/// [`UnnamedBuilding::open`].
 ///
 /// To let it go loses its spools and the ends of its rings: a drop ends no spool, and gives no account back to its pool.
-pub struct ShutBuilding<S: Spool> {
+pub struct UnnamedBuilding<S: Spool> {
     workers: Vec<Worker<S>>,
     idle: Vec<Intake>,
     side_ends: Vec<Consumer<Entry>>,
@@ -24,9 +24,9 @@ pub struct ShutBuilding<S: Spool> {
     work: Option<Work>,
 }
 
-impl<S: Spool> Drop for ShutBuilding<S> {
+impl<S: Spool> Drop for UnnamedBuilding<S> {
     fn drop(self) {
-        let ShutBuilding {
+        let UnnamedBuilding {
             workers: _,
             idle: _,
             side_ends: _,
@@ -37,7 +37,7 @@ impl<S: Spool> Drop for ShutBuilding<S> {
     }
 }
 
-impl<S: Spool> Model for ShutBuilding<S> {
+impl<S: Spool> Model for UnnamedBuilding<S> {
     ghost use Rattle.building.specs.BuildingValue.{BuildingValue, intakes};
 
     ghost Value = { BuildingValue };
@@ -50,34 +50,34 @@ impl<S: Spool> Model for ShutBuilding<S> {
     ghost use Rattle.building.specs.Keeping.{AreNumbered, KeepsWork};
     ghost use Rattle.building.specs.Rings.{AreTakeEnds, take_rings};
 
-    ghost view = { λ shut. record {
-      workers = shut.workers.items;
-      idle = shut.idle.items;
-      sides = map take_end shut.side_ends.items;
-      spools = map (spool_value S.runs S.open_run S.stake) shut.spools.items;
-      given = shut.given;
-      work = shut.work;
+    ghost view = { λ unnamed. record {
+      workers = unnamed.workers.items;
+      idle = unnamed.idle.items;
+      sides = map take_end unnamed.side_ends.items;
+      spools = map (spool_value S.runs S.open_run S.stake) unnamed.spools.items;
+      given = unnamed.given;
+      work = unnamed.work;
     } };
 
-    ghost invariant = { λ shut. AreTakeEnds (take_rings (intakes shut.workers.items shut.idle.items)) (taken_rings (map take_end shut.side_ends.items))
-        (intakes shut.workers.items shut.idle.items) (map take_end shut.side_ends.items)
-        × (16 ≤ vec_capacity shut.idle)
-        × (length (all_spools shut.workers.items (map (spool_value S.runs S.open_run S.stake) shut.spools.items)) ≤ vec_capacity shut.spools)
-        × (shut.work ≡ None → shut.workers.items ≡ [])
-        × (shut.given ≡ false → shut.work ≡ None)
-        × (shut.given ≡ true → shut.work ≡ None → All S.ended shut.spools.items)
-        × KeepsWork shut.workers.items (map take_end shut.side_ends.items) (map (spool_value S.runs S.open_run S.stake) shut.spools.items) shut.work
-        × AreNumbered shut.workers.items };
+    ghost invariant = { λ unnamed. AreTakeEnds (take_rings (intakes unnamed.workers.items unnamed.idle.items)) (taken_rings (map take_end unnamed.side_ends.items))
+        (intakes unnamed.workers.items unnamed.idle.items) (map take_end unnamed.side_ends.items)
+        × (16 ≤ vec_capacity unnamed.idle)
+        × (length (all_spools unnamed.workers.items (map (spool_value S.runs S.open_run S.stake) unnamed.spools.items)) ≤ vec_capacity unnamed.spools)
+        × (unnamed.work ≡ None → unnamed.workers.items ≡ [])
+        × (unnamed.given ≡ false → unnamed.work ≡ None)
+        × (unnamed.given ≡ true → unnamed.work ≡ None → All S.ended unnamed.spools.items)
+        × KeepsWork unnamed.workers.items (map take_end unnamed.side_ends.items) (map (spool_value S.runs S.open_run S.stake) unnamed.spools.items) unnamed.work
+        × AreNumbered unnamed.workers.items };
 }
 
-impl<S: Spool> ShutBuilding<S> {
+impl<S: Spool> UnnamedBuilding<S> {
     /// Gives it a name. Takes no memory.
-    pub fn open<T: Table>(self) -> Building<S, T>
+    pub fn open<T: TableRings>(self) -> Building<S, T>
         requires pages { take_rings (intakes self.workers self.idle) ≡ T.pages }
         requires sides { taken_rings self.sides ≡ T.sides }
         ensures { result ≡ self }
     {
-        let ShutBuilding {
+        let UnnamedBuilding {
             workers,
             idle,
             side_ends,
@@ -97,9 +97,9 @@ impl<S: Spool> ShutBuilding<S> {
     }
 }
 
-impl<S: Spool, T: Table> Building<S, T> {
+impl<S: Spool, T: TableRings> Building<S, T> {
     /// Takes its name off. Takes no memory.
-    pub fn shut(self) -> ShutBuilding<S>
+    pub fn unname(self) -> UnnamedBuilding<S>
         ensures building { result ≡ self }
         ensures pages { take_rings (intakes result.workers result.idle) ≡ T.pages }
         ensures sides { taken_rings result.sides ≡ T.sides }
@@ -113,7 +113,7 @@ impl<S: Spool, T: Table> Building<S, T> {
             work,
             of: _,
         } = self;
-        ShutBuilding {
+        UnnamedBuilding {
             workers,
             idle,
             side_ends,

@@ -2,7 +2,7 @@ use std::marker::Brand;
 
 /// Names one table, as a type: the rings between it and what stands beside it. So ends of rings that were carried elsewhere are
 /// known to be its own when they come back.
-pub trait Table {
+pub trait TableRings {
     ghost use Rattle.std.specs.Prelude.{List};
     ghost use Rattle.side_file.specs.Ends.{RingId};
 
@@ -13,7 +13,7 @@ pub trait Table {
     ghost sides: { List RingId };
 }
 
-impl Table for Brand {
+impl TableRings for Brand {
     ghost use Rattle.std.specs.Prelude.{[]};
 
     ghost pages = { [] };

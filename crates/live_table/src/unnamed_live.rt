@@ -2,7 +2,7 @@ ghost use Rattle.std.specs.Prelude.{◌≡◌};
 ghost use Rattle.table_scan.specs.SideFiles.{side_rings};
 ghost use Rattle.building.specs.Rings.{put_rings};
 
-use crate::{Live, Table};
+use crate::{Live, TableRings};
 use heap_table::Heap;
 use page_workers::PagePutter;
 use ready_indexes::ReadyIndexes;
@@ -11,8 +11,8 @@ use std::alloc::Global;
 use std::marker::{Model, PhantomData};
 use table_scan::TableScan;
 
-/// A [`Live`] whose name was taken off, for whoever can't keep a type. Its ends tell which rings a name has to be of for [`ShutLive::open`].
-pub struct ShutLive {
+/// A [`Live`] whose name was taken off, for whoever can't keep a type. Its ends tell which rings a name has to be of for [`UnnamedLive::open`].
+pub struct UnnamedLive {
     pub(crate) alloc: Global,
     pub(crate) heap: Heap,
     pub(crate) ready: ReadyIndexes,
@@ -22,9 +22,9 @@ pub struct ShutLive {
     pub(crate) sides: Vec<SideFile>,
 }
 
-impl Drop for ShutLive {
+impl Drop for UnnamedLive {
     fn drop(self) {
-        let ShutLive {
+        let UnnamedLive {
             alloc: _,
             heap: _,
             ready: _,
@@ -36,7 +36,7 @@ impl Drop for ShutLive {
     }
 }
 
-impl Model for ShutLive {
+impl Model for UnnamedLive {
     ghost use Rattle.ready_indexes.specs.Following.{AllFollow, indexes_of};
     ghost use Rattle.live_lemmas.specs.Builds.{LiveValue};
     ghost use Rattle.table_scan.specs.TableBuilds.{BuildFollows};
@@ -46,29 +46,29 @@ impl Model for ShutLive {
 
     ghost Value = { LiveValue };
 
-    ghost view = { λ shut. record {
-      state = record { heap = shut.heap.state; ready = indexes_of shut.ready.indexes; builds = shut.builds; build = shut.build };
-      pages = shut.pages.items;
-      sides = put_ends shut.sides.items;
+    ghost view = { λ unnamed. record {
+      state = record { heap = unnamed.heap.state; ready = indexes_of unnamed.ready.indexes; builds = unnamed.builds; build = unnamed.build };
+      pages = unnamed.pages.items;
+      sides = put_ends unnamed.sides.items;
     } };
 
-    ghost invariant = { λ shut. AllFollow shut.heap.state.schema shut.heap.state.log shut.ready.indexes
-        × BuildFollows shut.heap.state.schema shut.heap.state.log shut.build
-        × SidesFollow shut.heap.state.log shut.build shut.sides.items
-        × PagesFollow shut.heap.state.schema shut.heap.state.log shut.builds shut.build (all_sent shut.pages.items)
-        × AreOfBuilds shut.builds (all_sent shut.pages.items)
-        × ArePutEnds (put_rings shut.pages.items) (side_rings (put_ends shut.sides.items)) shut.pages.items (put_ends shut.sides.items)
-        × EntriesAreOfBuilds shut.builds (put_ends shut.sides.items) };
+    ghost invariant = { λ unnamed. AllFollow unnamed.heap.state.schema unnamed.heap.state.log unnamed.ready.indexes
+        × BuildFollows unnamed.heap.state.schema unnamed.heap.state.log unnamed.build
+        × SidesFollow unnamed.heap.state.log unnamed.build unnamed.sides.items
+        × PagesFollow unnamed.heap.state.schema unnamed.heap.state.log unnamed.builds unnamed.build (all_sent unnamed.pages.items)
+        × AreOfBuilds unnamed.builds (all_sent unnamed.pages.items)
+        × ArePutEnds (put_rings unnamed.pages.items) (side_rings (put_ends unnamed.sides.items)) unnamed.pages.items (put_ends unnamed.sides.items)
+        × EntriesAreOfBuilds unnamed.builds (put_ends unnamed.sides.items) };
 }
 
-impl ShutLive {
+impl UnnamedLive {
     /// Gives it a name. Takes no memory.
-    pub fn open<T: Table>(self) -> Live<T>
+    pub fn open<T: TableRings>(self) -> Live<T>
         requires pages { put_rings self.pages ≡ T.pages }
         requires sides { side_rings self.sides ≡ T.sides }
         ensures { result ≡ self }
     {
-        let ShutLive {
+        let UnnamedLive {
             alloc,
             heap,
             ready,
