@@ -1,15 +1,13 @@
 mod Agreed
-mod Drafted
 mod FieldLemmas
+mod LinesRead
 mod Misfits
-mod Ordered
-mod RaceAgreed
 mod RaceDrafted
 mod RaceGathered
 mod RaceShaped
-mod RaceStopped
 mod RecordsLeft
 mod RidPoints
+mod ScriptDrafted
 mod Shaped
 mod SpelledKeys
 mod SpelledLists

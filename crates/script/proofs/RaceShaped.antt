@@ -2,9 +2,11 @@
 use Rattle.std.proofs.Common.{◌≡◌, ◌==◌, ℕ, true, false, List, [], ◌∷◌, slice_index, codes, if◌then◌else◌, Option, Some, None, inl, inr, ap, refl, sym, ◌∙◌}
 use Rattle.std.specs.Str.{bytes_eq}
 use Rattle.script.specs.Fields.{SpellsCell, SpellsSpec}
-use Rattle.script.specs.Lines.{name_of}
-use Rattle.script.specs.RaceLines.{SpellBuild, SpellIn, SpellRaceLine, as_command, race_written}
+use Rattle.script.specs.Grammars.{IsClear}
+use Rattle.script.specs.Lines.{SpellBuild, name_of}
+use Rattle.script.specs.RaceLines.{SpellIn, SpellRaceLine, as_command, race_written}
 use Rattle.script.specs.RaceOrder.{name_of_line}
+use Rattle.script.specs.RaceScripts.{race_grammar}
 use Rattle.script.specs.RaceShapes.{FitsRace, HasRaceShape}
 use Rattle.script.specs.Shapes.{IsRemark, is_of_session}
 use Rattle.script.specs.declared.command.Command.TheVariants as command
@@ -45,7 +47,7 @@ none_fit : (fields : List (List ℕ)) → fields ≡ [] → FitsRace name.Go fie
 none_fit [] none = tt
 none_fit (f ∷ fs) none = cc
 
-pub race_line_shape : (fields : List (List ℕ)) (line : RaceLine) → SpellRaceLine fields line → HasRaceShape fields
+race_line_shape : (fields : List (List ℕ)) (line : RaceLine) → SpellRaceLine fields line → HasRaceShape fields
 race_line_shape [] PassedOver spelled = spelled
 race_line_shape [] (Table table) spelled = spelled
 race_line_shape [] (Row cells) spelled = spelled
@@ -120,7 +122,7 @@ same_begin text (Some one) None begins also = absurd (no_remark one (rw begins a
 same_begin text (Some one) (Some other) begins also = ap Some (same_name one other (sym begins ∙ also))
 
 -- lines that the same fields spell have one name
-pub same_line_name : (fields : List (List ℕ)) (one other : RaceLine) → SpellRaceLine fields one → SpellRaceLine fields other
+same_line_name : (fields : List (List ℕ)) (one other : RaceLine) → SpellRaceLine fields one → SpellRaceLine fields other
     → name_of_line one ≡ name_of_line other
 same_line_name [] PassedOver other spelled also = absurd spelled
 same_line_name [] (Table table) other spelled also = absurd spelled
@@ -131,3 +133,6 @@ same_line_name [] Go other spelled also = absurd spelled
 same_line_name [] (In session command) other spelled also = absurd spelled
 same_line_name (f ∷ fs) one other spelled also =
     same_begin f (name_of_line one) (name_of_line other) (begins_as f fs one spelled) (begins_as f fs other also)
+
+pub race_is_clear : IsClear race_grammar
+race_is_clear = record { shape = race_line_shape; one_name = same_line_name }

@@ -3,7 +3,9 @@ use Rattle.std.proofs.Common.{◌≡◌, ◌==◌, ℕ, true, false, List, [], �
 use Rattle.std.specs.List.{AllZip}
 use Rattle.std.specs.Str.{bytes_eq}
 use Rattle.script.specs.Fields.{SpellEach, SpellsCell, SpellsKind, SpellsNumber, SpellsRid, SpellsSpec, SpellsSpools}
+use Rattle.script.specs.Grammars.{IsClear}
 use Rattle.script.specs.Lines.{SpellLine, SpellParts, SpellTable, SpellsLabel, name_of}
+use Rattle.script.specs.Scripts.{name_of_line, script_grammar}
 use Rattle.script.specs.Shapes.{Fit, HasShape, IsRemark, IsSpelled, parts_of, repeated_of, written}
 use Rattle.script.specs.declared.command.Command.{Command}
 use Rattle.script.specs.declared.command.Command.TheVariants.{Row, Begin, Insert, Update, Delete, Undo, Commit, Get, Start as StartCommand, Scan, Digest, Seal}
@@ -110,7 +112,7 @@ command_fits fields (Pairs number) spelled = one_fits SpellsNumber part.Number n
 command_fits fields (Rest spec) spelled = one_fits SpellsSpec part.Spec spec_part fields spec spelled
 
 -- fields that spell a line have its shape
-pub line_shape : (fields : List (List ℕ)) (line : Line) → SpellLine fields line → HasShape fields
+line_shape : (fields : List (List ℕ)) (line : Line) → SpellLine fields line → HasShape fields
 line_shape [] PassedOver spelled = spelled
 line_shape [] (TableLine table) spelled = spelled
 line_shape [] (CommandLine command) spelled = spelled
@@ -172,7 +174,7 @@ named_written name.Pairs = refl
 named_written name.Rest = refl
 
 -- no two names are written alike
-pub same_name : (one other : CommandName) → written one ≡ written other → one ≡ other
+same_name : (one other : CommandName) → written one ≡ written other → one ≡ other
 same_name one other same = sym (named_written one) ∙ ap named same ∙ named_written other
 
 -- no name is a remark
@@ -201,7 +203,7 @@ begins_plain name.Side = refl
 begins_plain name.Pairs = refl
 begins_plain name.Rest = refl
 
-pub no_remark : (one : CommandName) → IsRemark (written one) → ⊥
+no_remark : (one : CommandName) → IsRemark (written one) → ⊥
 no_remark one remark =
     let both : true ≡ false = ap (λ (text : List ℕ). slice_index text 0 == 35) (sym remark.1) ∙ begins_plain one in cc
 
@@ -230,10 +232,23 @@ not_table (Side index) is = cc
 not_table (Pairs number) is = cc
 not_table (Rest spec) is = cc
 
--- fields that spell a table spell nothing else
-pub same_table : (fields : List (List ℕ)) (table : Table) (line : Line) → SpellLine fields (TableLine table) → SpellLine fields line
-    → (again : Table) × (line ≡ TableLine again)
-same_table [] table line is spelled = absurd is
-same_table (f ∷ fs) table PassedOver is spelled = absurd (no_remark name.Table (rw is.0 at spelled))
-same_table (f ∷ fs) table (TableLine again) is spelled = (again, refl)
-same_table (f ∷ fs) table (CommandLine command) is spelled = absurd (not_table command (same_name name.Table (name_of command) (sym is.0 ∙ spelled.0)))
+-- lines that the same fields spell have one name
+same_line_name : (fields : List (List ℕ)) (one other : Line) → SpellLine fields one → SpellLine fields other → name_of_line one ≡ name_of_line other
+same_line_name [] PassedOver other spelled also = absurd spelled
+same_line_name [] (TableLine table) other spelled also = absurd spelled
+same_line_name [] (CommandLine command) other spelled also = absurd spelled
+same_line_name (f ∷ fs) PassedOver PassedOver spelled also = refl
+same_line_name (f ∷ fs) PassedOver (TableLine table) spelled also = absurd (no_remark name.Table (rw also.0 at spelled))
+same_line_name (f ∷ fs) PassedOver (CommandLine command) spelled also = absurd (no_remark (name_of command) (rw also.0 at spelled))
+same_line_name (f ∷ fs) (TableLine table) PassedOver spelled also = absurd (no_remark name.Table (rw spelled.0 at also))
+same_line_name (f ∷ fs) (TableLine table) (TableLine other) spelled also = refl
+same_line_name (f ∷ fs) (TableLine table) (CommandLine command) spelled also =
+    ap Some (same_name name.Table (name_of command) (sym spelled.0 ∙ also.0))
+same_line_name (f ∷ fs) (CommandLine command) PassedOver spelled also = absurd (no_remark (name_of command) (rw spelled.0 at also))
+same_line_name (f ∷ fs) (CommandLine command) (TableLine table) spelled also =
+    ap Some (same_name (name_of command) name.Table (sym spelled.0 ∙ also.0))
+same_line_name (f ∷ fs) (CommandLine command) (CommandLine other) spelled also =
+    ap Some (same_name (name_of command) (name_of other) (sym spelled.0 ∙ also.0))
+
+pub script_is_clear : IsClear script_grammar
+script_is_clear = record { shape = line_shape; one_name = same_line_name }

@@ -1,7 +1,7 @@
 -- A field alone that is a word.
 use Rattle.std.proofs.Common.{◌≡◌, ℕ, List, [], ◌∷◌, length, MatchOption, Option, Some, arith, refl, subst}
 use Rattle.csv.specs.Records.{AllText}
-use Rattle.script.specs.Explanations.{IsUnknown, first_of}
+use Rattle.script.specs.Misfits.{IsUnknown, first_of}
 use Rattle.script.specs.InputLines.{IsWord}
 
 pub word_alone : (fields : List (List ℕ)) (text : List ℕ) → length fields ≡ 1 → text ≡ first_of fields → IsUnknown (first_of fields) → AllText fields

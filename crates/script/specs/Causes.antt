@@ -11,7 +11,7 @@ use Rattle.script.specs.declared.script_error.ScriptError.TheVariants as script_
 abbrev pub error_at : ℕ → Cause → ScriptError
 error_at number cause.NotText = script_error.Bad number
 error_at number cause.Misspelled = script_error.Bad number
-error_at number cause.LateTable = script_error.Bad number
+error_at number (cause.Misplaced name) = script_error.Bad number
 error_at number cause.NoMemory = script_error.NoMemory
 error_at number cause.CannotRead = script_error.CannotRead
 

@@ -1,9 +1,11 @@
 -- A script that comes line by line, and what each of its records is.
 use Rattle.std.specs.Prelude.{◌≡◌, ◌==◌, ℕ, List, [], ◌∷◌, ◌++◌, string_bytes, if◌then◌else◌}
 use Rattle.csv.specs.Records.{AllText}
-use Rattle.script.specs.Explanations.{IsUnknown, Tells}
+use Rattle.script.specs.Explanations.{Tells}
+use Rattle.script.specs.Grammars.{RecordSpells}
+use Rattle.script.specs.Misfits.{IsUnknown}
 use Rattle.script.specs.Records.{records_of}
-use Rattle.script.specs.Scripts.{RecordSpells}
+use Rattle.script.specs.Scripts.{script_grammar}
 use Rattle.script.specs.declared.input_record.InputRecord.{InputRecord}
 use Rattle.script.specs.declared.input_record.InputRecord.TheVariants.{Good, Word, Bad}
 
@@ -28,9 +30,9 @@ IsWord fields = (text : List ℕ) × (fields ≡ text ∷ []) × AllText fields 
 
 -- a record is told to be the line that it spells, the word that it is, or bad, which no word is
 abbrev pub IsTold : List (List ℕ) → InputRecord → Type 0
-IsTold fields (Good line) = RecordSpells fields line
+IsTold fields (Good line) = RecordSpells script_grammar fields line
 IsTold fields (Word text) = (fields ≡ string_bytes text ∷ []) × IsWord fields
-IsTold fields (Bad explanation) = Tells [] (fields ∷ []) explanation × ¬ (IsWord fields)
+IsTold fields (Bad explanation) = Tells script_grammar [] (fields ∷ []) explanation × ¬ (IsWord fields)
 
 -- the first of the records is told so, and the others stay
 abbrev pub TellsNext : List (List (List ℕ)) → List (List (List ℕ)) → InputRecord → Type 0

@@ -12,6 +12,7 @@ use Rattle.script.specs.declared.command.Command.TheVariants.{Row, Begin, Insert
 use Rattle.script.specs.declared.command.Command.TheVariants.{Load, Feed, Apply, Fence, Switch, Abandon, Side, Pairs, Rest, Spools}
 use Rattle.script.specs.declared.command_name.CommandName.{CommandName}
 use Rattle.script.specs.declared.command_name.CommandName.TheVariants as name
+use Rattle.script.specs.declared.race.build.Build.{Build}
 use Rattle.script.specs.declared.start.Start.{Start}
 use Rattle.script.specs.declared.table.Table.{Table}
 
@@ -48,6 +49,12 @@ SpellStart fields start =
     AtFirst (λ workers more. SpellsNumber workers start.workers
     × AtFirst (λ quota more. SpellsNumber quota start.quota
     × AtFirst (λ ranges indexes. SpellsDealing ranges start.dealing × SpellEach SpellsSpec indexes start.specs.items) more) more) fields
+
+-- the fields of a record `build`: the quota, the dealing and the indexes
+abbrev pub SpellBuild : List (List ℕ) → Build → Type 0
+SpellBuild fields build =
+    AtFirst (λ quota more. SpellsNumber quota build.quota
+    × AtFirst (λ ranges indexes. SpellsDealing ranges build.dealing × SpellEach SpellsSpec indexes build.specs.items) more) fields
 
 -- the name of a command
 abbrev pub name_of : Command → CommandName

@@ -3,11 +3,10 @@ use Rattle.std.specs.Prelude.{◌≡◌, ℕ, Bool, ◌||◌, true, false, List,
 use Rattle.std.specs.Global.{Vec}
 use Rattle.std.specs.Option.{option_to_list}
 use Rattle.keybytes.specs.declared.cell.Cell.{Cell}
-use Rattle.script.specs.RaceOrder.{gathered, has, name_of_line, names}
-use Rattle.script.specs.RaceScripts.{StandsBehindRace, build_at, choice_at, row_at, step_at, table_at}
+use Rattle.script.specs.Grammars.{names}
+use Rattle.script.specs.RaceOrder.{gathered, has, name_of_line}
+use Rattle.script.specs.RaceScripts.{build_at, choice_at, race_grammar, row_at, step_at, table_at}
 use Rattle.script.specs.declared.race.build.Build.{Build}
-use Rattle.script.specs.declared.race.cause.RaceCause.{RaceCause}
-use Rattle.script.specs.declared.race.cause.RaceCause.TheVariants.{CannotRead, Misplaced, Misspelled, NoMemory, NotText}
 use Rattle.script.specs.declared.race.line.RaceLine.{RaceLine}
 use Rattle.script.specs.declared.race.name.RaceName.{RaceName}
 use Rattle.script.specs.declared.race.name.RaceName.TheVariants as name
@@ -44,14 +43,6 @@ MayComeNext draft (Some name.Build) = (draft.gone ≡ false) × (is_some_list dr
 MayComeNext draft (Some name.Go) = draft.gone ≡ false
 MayComeNext draft (Some name.In) = draft.gone ≡ true
 
--- why a line of that name was not put into the draft
-abbrev pub IsNotPut : RaceDraftValue → Option RaceName → RaceCause → Type 0
-IsNotPut draft named (Misplaced name) = (named ≡ Some name) × ¬ (MayComeNext draft (Some name))
-IsNotPut draft named NoMemory = ⊤
-IsNotPut draft named NotText = ⊥
-IsNotPut draft named Misspelled = ⊥
-IsNotPut draft named CannotRead = ⊥
-
 -- the draft with one more line, of that number
 abbrev pub with_race_line : RaceDraftValue → ℕ → RaceLine → RaceDraftValue
 with_race_line draft number line = record {
@@ -71,22 +62,5 @@ pub record IsRaceDraft (draft : RaceDraftValue) (lines : List RaceLine) : Type 0
   pub choices : gathered choice_at 1 lines ≡ draft.choices
   pub builds : gathered build_at 1 lines ≡ draft.builds
   pub steps : gathered step_at 1 lines ≡ draft.steps
-  pub begun : is_some_list (names lines) ≡ draft.begun
-  pub gone : has name.Go (names lines) ≡ draft.gone
-
--- these records are left, from that number on, and the draft has what those before them spell
-abbrev pub HasReadRace : List ℕ → List (List (List ℕ)) → RaceDraftValue → ℕ → Type 0
-HasReadRace text left draft number = (lines : List RaceLine) × StandsBehindRace text lines left number × IsRaceDraft draft lines
-
--- what is missing of a race script: the first of a table, a build and `go` that is not there
-abbrev pub IsMissing : RaceDraftValue → RaceName → Type 0
-IsMissing draft name.Table = draft.tables ≡ []
-IsMissing draft name.Build = draft.builds ≡ []
-IsMissing draft name.Go = draft.gone ≡ false
-IsMissing draft name.Row = ⊥
-IsMissing draft name.Spools = ⊥
-IsMissing draft name.In = ⊥
-
--- nothing is missing
-abbrev pub IsWholeDraft : RaceDraftValue → Type 0
-IsWholeDraft draft = (is_some_list draft.tables ≡ true) × (is_some_list draft.builds ≡ true) × (draft.gone ≡ true)
+  pub begun : is_some_list (names race_grammar lines) ≡ draft.begun
+  pub gone : has name.Go (names race_grammar lines) ≡ draft.gone

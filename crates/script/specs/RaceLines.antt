@@ -1,13 +1,12 @@
 -- What the fields of a race script's record ask for.
 use Rattle.std.specs.Prelude.{◌≡◌, ℕ, List, [], ◌∷◌, codes}
 use Rattle.std.specs.List.{AllZip}
-use Rattle.script.specs.Fields.{SpellEach, SpellsCell, SpellsDealing, SpellsNumber, SpellsSession, SpellsSpec, SpellsSpools}
-use Rattle.script.specs.Lines.{AtFirst, SpellLine, SpellTable}
+use Rattle.script.specs.Fields.{SpellEach, SpellsCell, SpellsSession, SpellsSpools}
+use Rattle.script.specs.Lines.{AtFirst, SpellBuild, SpellLine, SpellTable}
 use Rattle.script.specs.Shapes.{IsRemark}
 use Rattle.script.specs.declared.command.Command.{Command}
 use Rattle.script.specs.declared.command.Command.TheVariants as command
 use Rattle.script.specs.declared.line.Line.TheVariants as line
-use Rattle.script.specs.declared.race.build.Build.{Build}
 use Rattle.script.specs.declared.race.line.RaceLine.{RaceLine}
 use Rattle.script.specs.declared.race.line.RaceLine.TheVariants.{PassedOver, Table, Row, Spools, Build as BuildLine, Go, In}
 use Rattle.script.specs.declared.race.name.RaceName.{RaceName}
@@ -32,12 +31,6 @@ as_command (Update label rid cells) = command.Update label rid cells
 as_command (Delete label rid) = command.Delete label rid
 as_command (Undo label) = command.Undo label
 as_command (Commit label) = command.Commit label
-
--- the fields of a record `build`: the quota, the dealing and the indexes
-abbrev pub SpellBuild : List (List ℕ) → Build → Type 0
-SpellBuild fields build =
-    AtFirst (λ quota more. SpellsNumber quota build.quota
-    × AtFirst (λ ranges indexes. SpellsDealing ranges build.dealing × SpellEach SpellsSpec indexes build.specs.items) more) fields
 
 -- the number of a session, and a command that is spelled as in a script that is replayed
 abbrev pub SpellIn : List (List ℕ) → ℕ → SessionCommand → Type 0

@@ -1,7 +1,6 @@
 -- In which order the records of a race script come.
-use Rattle.std.specs.Prelude.{◌≡◌, ◌==◌, ℕ, ◌+◌, Bool, true, false, List, [], ◌∷◌, ◌++◌, Option, Some, None, ⊤}
+use Rattle.std.specs.Prelude.{◌≡◌, ◌==◌, ℕ, ◌+◌, Bool, true, false, List, [], ◌∷◌, ◌++◌, Option, Some, None}
 use Rattle.std.specs.List.{list_any}
-use Rattle.std.specs.Option.{option_to_list}
 use Rattle.script.specs.declared.race.line.RaceLine.{RaceLine}
 use Rattle.script.specs.declared.race.line.RaceLine.TheVariants.{PassedOver, Table, Row, Spools, Build, Go, In}
 use Rattle.script.specs.declared.race.name.RaceName.{RaceName}
@@ -21,14 +20,6 @@ name_of_line (In session command) = Some name.In
 abbrev pub gathered : {A : Type 0} → (ℕ → RaceLine → List A) → ℕ → List RaceLine → List A
 gathered given number [] = []
 gathered given number (line ∷ lines) = given number line ++ gathered given (number + 1) lines
-
--- the name that a line gives, if it has one
-abbrev pub name_at : ℕ → RaceLine → List RaceName
-name_at number line = option_to_list (name_of_line line)
-
--- the names of the lines' records
-abbrev pub names : List RaceLine → List RaceName
-names lines = gathered name_at 1 lines
 
 -- names as numbers, by which they are told apart
 abbrev pub rank : RaceName → ℕ
@@ -51,16 +42,6 @@ MayCome before name.Spools = (has name.Go before ≡ false) × (has name.Spools 
 MayCome before name.Build = (has name.Go before ≡ false) × (has name.Build before ≡ false)
 MayCome before name.Go = has name.Go before ≡ false
 MayCome before name.In = has name.Go before ≡ true
-
--- the same of a line behind lines; one that is passed over may stand anywhere
-abbrev pub MayStand : List RaceLine → Option RaceName → Type 0
-MayStand before None = ⊤
-MayStand before (Some one) = MayCome (names before) one
-
--- each line may stand behind these and those before it
-abbrev pub AreInOrder : List RaceLine → List RaceLine → Type 0
-AreInOrder before [] = ⊤
-AreInOrder before (line ∷ lines) = MayStand before (name_of_line line) × AreInOrder (before ++ line ∷ []) lines
 
 -- a table, a build and `go` are there
 abbrev pub AreWhole : List RaceName → Type 0

@@ -1,28 +1,44 @@
 -- Which race script a text is, and which of its records is the first bad one.
-use Rattle.std.specs.Prelude.{◌≡◌, ℕ, ◌+◌, List, [], ◌∷◌, ◌++◌, length}
+use Rattle.std.specs.Prelude.{◌≡◌, ℕ, false, List, [], ◌∷◌}
 use Rattle.std.specs.Global.{Vec}
-use Rattle.std.specs.List.{AllZip}
-use Rattle.csv.specs.Records.{AllText}
 use Rattle.keybytes.specs.declared.cell.Cell.{Cell}
+use Rattle.script.specs.Grammars.{AreAllGood, Grammar, IsFirstBadIn, SpellsAll}
 use Rattle.script.specs.RaceLines.{SpellRaceLine}
-use Rattle.script.specs.RaceOrder.{AreInOrder, AreWhole, MayStand, gathered, name_of_line, names}
-use Rattle.script.specs.Records.{records_of}
+use Rattle.script.specs.RaceMisfits.{TellsRaceMisfit}
+use Rattle.script.specs.RaceOrder.{AreWhole, MayCome, gathered, has, name_of_line}
+use Rattle.script.specs.RaceShapes.{HasRaceShape}
+use Rattle.script.specs.declared.explanation.Explanation.{Explanation}
+use Rattle.script.specs.declared.explanation.Explanation.TheVariants.{Misfit as IsMisfit, Misplaced, Missing, NoTable, NotText}
 use Rattle.script.specs.declared.race.build.Build.{Build}
 use Rattle.script.specs.declared.race.line.RaceLine.{RaceLine}
 use Rattle.script.specs.declared.race.line.RaceLine.TheVariants.{PassedOver, Table as TableLine, Row, Spools, Build as BuildLine, Go, In}
+use Rattle.script.specs.declared.race.name.RaceName.{RaceName}
 use Rattle.script.specs.declared.race.script.RaceScript.{RaceScript}
 use Rattle.script.specs.declared.race.session_step.SessionStep.{SessionStep}
 use Rattle.run_spool.specs.declared.choice.SpoolChoice.{SpoolChoice}
 use Rattle.run_spool.specs.declared.choice.SpoolChoice.TheVariants.{Plain}
 use Rattle.script.specs.declared.table.Table.{Table}
 
--- a record spells a line where its fields are text and ask for that line
-abbrev pub RecordSpellsRace : List (List ℕ) → RaceLine → Type 0
-RecordSpellsRace fields line = AllText fields × SpellRaceLine fields line
+-- something is missing: no record has that name
+abbrev pub TellsMissing : List RaceName → Explanation → Type 0
+TellsMissing some (Missing name) = has name some ≡ false
+TellsMissing some NotText = ⊥
+TellsMissing some (IsMisfit misfit) = ⊥
+TellsMissing some (Misplaced name) = ⊥
+TellsMissing some NoTable = ⊥
 
--- the records spell the lines, one each, and these are in order
-abbrev pub SpellRaceLines : List (List (List ℕ)) → List RaceLine → Type 0
-SpellRaceLines records lines = AllZip RecordSpellsRace records lines × AreInOrder [] lines
+-- scripts of races
+abbrev pub race_grammar : Grammar RaceName RaceLine
+race_grammar = record {
+  spells = SpellRaceLine;
+  has_shape = HasRaceShape;
+  tells_misfit = TellsRaceMisfit;
+  name_of = name_of_line;
+  told_as = name_of_line;
+  may_come = MayCome;
+  are_whole = AreWhole;
+  tells_missing = TellsMissing;
+}
 
 -- the table that a line is, with its number
 abbrev pub table_at : ℕ → RaceLine → List (ℕ × Table)
@@ -89,27 +105,12 @@ pub record IsRaceScript (lines : List RaceLine) (script : RaceScript) : Type 0 w
 
 -- every record of the text is good, and together they are the script
 abbrev pub SpellsRaceScript : List ℕ → RaceScript → Type 0
-SpellsRaceScript text script =
-    (lines : List RaceLine) × SpellRaceLines (records_of text) lines × AreWhole (names lines) × IsRaceScript lines script
-
--- the first records of the text spell these lines, and the others stand behind them, the first of those with that number
-pub record StandsBehindRace (text : List ℕ) (lines : List RaceLine) (behind : List (List (List ℕ))) (number : ℕ) : Type 0 where
-  pub before : List (List (List ℕ))
-  pub split : records_of text ≡ before ++ behind
-  pub spelled : SpellRaceLines before lines
-  pub numbered : number ≡ length lines + 1
-
--- the first of the records is bad behind these lines: it spells no line that may stand there, or there is none and something is missing
-abbrev pub IsBadBehindRace : List RaceLine → List (List (List ℕ)) → Type 0
-IsBadBehindRace lines [] = ¬ (AreWhole (names lines))
-IsBadBehindRace lines (fields ∷ rest) = (line : RaceLine) → RecordSpellsRace fields line → ¬ (MayStand lines (name_of_line line))
+SpellsRaceScript text script = SpellsAll race_grammar IsRaceScript text script
 
 -- the records before the one of that number are good, and it is bad
 abbrev pub IsFirstBadOfRace : List ℕ → ℕ → Type 0
-IsFirstBadOfRace text number =
-    (lines : List RaceLine) × (behind : List (List (List ℕ))) × StandsBehindRace text lines behind number × IsBadBehindRace lines behind
+IsFirstBadOfRace text number = IsFirstBadIn race_grammar text number
 
 -- so many records are all of the text, and all are good
 abbrev pub AreGoodOfRace : List ℕ → ℕ → Type 0
-AreGoodOfRace text count =
-    (lines : List RaceLine) × SpellRaceLines (records_of text) lines × AreWhole (names lines) × (count ≡ length (records_of text))
+AreGoodOfRace text count = AreAllGood race_grammar text count

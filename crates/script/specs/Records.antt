@@ -3,7 +3,7 @@ use Rattle.std.specs.Prelude.{ℕ, List, [], ◌∷◌, ⊤}
 use Rattle.csv.specs.Reading.{default_config, records, strip_bom}
 use Rattle.csv.specs.Records.{AllText}
 use Rattle.script.specs.declared.cause.Cause.{Cause}
-use Rattle.script.specs.declared.cause.Cause.TheVariants.{CannotRead, LateTable, Misspelled, NoMemory, NotText}
+use Rattle.script.specs.declared.cause.Cause.TheVariants.{CannotRead, Misplaced, Misspelled, NoMemory, NotText}
 
 -- the records of a text, each with its fields; no line of it is a header
 abbrev pub records_of : List ℕ → List (List (List ℕ))
@@ -18,6 +18,6 @@ BeginsWithBytes (fields ∷ rest) = ¬ (AllText fields)
 abbrev pub FailsToRead : List (List (List ℕ)) → Cause → Type 0
 FailsToRead records NotText = BeginsWithBytes records
 FailsToRead records Misspelled = ⊥
-FailsToRead records LateTable = ⊥
+FailsToRead records (Misplaced name) = ⊥
 FailsToRead records NoMemory = ⊤
 FailsToRead records CannotRead = ⊤

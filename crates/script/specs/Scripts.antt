@@ -1,36 +1,62 @@
 -- Which script a text is, and which of its records is the first bad one.
-use Rattle.std.specs.Prelude.{◌≡◌, ℕ, ◌+◌, List, [], ◌∷◌, ◌++◌, length, ⊤}
-use Rattle.std.specs.List.{AllZip}
-use Rattle.csv.specs.Records.{AllText}
-use Rattle.script.specs.Lines.{SpellLine}
-use Rattle.script.specs.Records.{records_of}
+use Rattle.std.specs.Prelude.{◌≡◌, ◌⊎◌, ℕ, ◌+◌, List, [], ◌∷◌, Option, Some, None}
+use Rattle.script.specs.Grammars.{AreAllGood, Grammar, IsFirstBadIn, SpellsAll}
+use Rattle.script.specs.Lines.{SpellLine, name_of}
+use Rattle.script.specs.Misfits.{TellsMisfit}
+use Rattle.script.specs.Shapes.{HasShape}
+use Rattle.script.specs.declared.command_name.CommandName.{CommandName}
+use Rattle.script.specs.declared.command_name.CommandName.TheVariants as name
+use Rattle.script.specs.declared.explanation.Explanation.{Explanation}
+use Rattle.script.specs.declared.explanation.Explanation.TheVariants.{Misfit as IsMisfit, Misplaced, Missing, NoTable, NotText}
 use Rattle.script.specs.declared.line.Line.{Line}
 use Rattle.script.specs.declared.line.Line.TheVariants.{PassedOver, Table as TableLine, Command as CommandLine}
 use Rattle.script.specs.declared.numbered_command.NumberedCommand.{NumberedCommand}
+use Rattle.script.specs.declared.race.name.RaceName.{RaceName}
+use Rattle.script.specs.declared.race.name.RaceName.TheVariants as race_name
 use Rattle.script.specs.declared.script.Script.{Script}
 use Rattle.script.specs.declared.table.Table.{Table}
 
--- a record spells a line where its fields are text and ask for that line
-abbrev pub RecordSpells : List (List ℕ) → Line → Type 0
-RecordSpells fields line = AllText fields × SpellLine fields line
+-- the name of a line's record; one that is passed over has none
+abbrev pub name_of_line : Line → Option CommandName
+name_of_line PassedOver = None
+name_of_line (TableLine table) = Some name.Table
+name_of_line (CommandLine command) = Some (name_of command)
 
--- no line is a table
-abbrev pub NoTable : List Line → Type 0
-NoTable [] = ⊤
-NoTable (PassedOver ∷ lines) = NoTable lines
-NoTable (TableLine table ∷ lines) = ⊥
-NoTable (CommandLine command ∷ lines) = NoTable lines
+-- only a table may be misplaced
+abbrev pub told_as : Line → Option RaceName
+told_as PassedOver = None
+told_as (TableLine table) = Some race_name.Table
+told_as (CommandLine command) = None
 
--- a table comes first, but for lines that are passed over, and only once
-abbrev pub InOrder : List Line → Type 0
-InOrder [] = ⊤
-InOrder (PassedOver ∷ lines) = InOrder lines
-InOrder (TableLine table ∷ lines) = NoTable lines
-InOrder (CommandLine command ∷ lines) = NoTable lines
+-- a table comes first, so that there is only one, and anything else anywhere
+abbrev pub MayCome : List CommandName → CommandName → Type 0
+MayCome before one = one ≡ name.Table → before ≡ []
 
--- the records spell the lines, one each, and these are in order
-abbrev pub SpellLines : List (List (List ℕ)) → List Line → Type 0
-SpellLines records lines = AllZip RecordSpells records lines × InOrder lines
+-- one of the names is that of a table
+abbrev pub HasTable : List CommandName → Type 0
+HasTable [] = ⊥
+HasTable (one ∷ more) = (one ≡ name.Table) ⊎ HasTable more
+
+-- a table is missing
+abbrev pub TellsNoTable : List CommandName → Explanation → Type 0
+TellsNoTable some NoTable = ¬ (HasTable some)
+TellsNoTable some NotText = ⊥
+TellsNoTable some (IsMisfit misfit) = ⊥
+TellsNoTable some (Misplaced name) = ⊥
+TellsNoTable some (Missing name) = ⊥
+
+-- scripts that are replayed
+abbrev pub script_grammar : Grammar CommandName Line
+script_grammar = record {
+  spells = SpellLine;
+  has_shape = HasShape;
+  tells_misfit = TellsMisfit;
+  name_of = name_of_line;
+  told_as = told_as;
+  may_come = MayCome;
+  are_whole = HasTable;
+  tells_missing = TellsNoTable;
+}
 
 -- the tables among the lines, each with its number, where the first line has that number
 abbrev pub tables_from : ℕ → List Line → List (ℕ × Table)
@@ -52,24 +78,12 @@ IsScript lines script = (tables_from 1 lines ≡ (script.table_number, script.ta
 
 -- every record of the text is good, and together they are the script
 abbrev pub SpellsScript : List ℕ → Script → Type 0
-SpellsScript text script = (lines : List Line) × SpellLines (records_of text) lines × IsScript lines script
-
--- the first records of the text spell these lines, and the others stand behind them, the first of those with that number
-pub record StandsBehind (text : List ℕ) (lines : List Line) (behind : List (List (List ℕ))) (number : ℕ) : Type 0 where
-  pub before : List (List (List ℕ))
-  pub split : records_of text ≡ before ++ behind
-  pub spelled : SpellLines before lines
-  pub numbered : number ≡ length lines + 1
-
--- the first of the records is bad behind these lines: it spells no line that may stand there, or there is none and no table came
-abbrev pub IsBadBehind : List Line → List (List (List ℕ)) → Type 0
-IsBadBehind lines [] = NoTable lines
-IsBadBehind lines (fields ∷ rest) = (line : Line) → RecordSpells fields line → ¬ (InOrder (lines ++ line ∷ []))
+SpellsScript text script = SpellsAll script_grammar IsScript text script
 
 -- the records before the one of that number are good, and it is bad
 abbrev pub IsFirstBad : List ℕ → ℕ → Type 0
-IsFirstBad text number = (lines : List Line) × (behind : List (List (List ℕ))) × StandsBehind text lines behind number × IsBadBehind lines behind
+IsFirstBad text number = IsFirstBadIn script_grammar text number
 
 -- so many records are all of the text, and all are good
 abbrev pub AreGood : List ℕ → ℕ → Type 0
-AreGood text count = (lines : List Line) × SpellLines (records_of text) lines × ¬ (NoTable lines) × (count ≡ length (records_of text))
+AreGood text count = AreAllGood script_grammar text count

@@ -3,6 +3,7 @@ ghost use Rattle.script.specs.Causes.{error_at, record_cause};
 ghost use Rattle.script.specs.declared.cause.Cause.TheVariants.{NoMemory};
 
 use crate::ScriptError;
+use crate::race::RaceName;
 use crate::record_error::RecordError;
 use std::alloc::AllocFailed;
 
@@ -13,8 +14,8 @@ pub enum Cause {
     NotText,
     /// It is not spelled as a record is.
     Misspelled,
-    /// It is a table behind a record that counts.
-    LateTable,
+    /// It may not come behind those before it. So it is told by that name.
+    Misplaced(RaceName),
     NoMemory,
     CannotRead,
 }
@@ -25,7 +26,7 @@ impl Cause {
         ensures { result ≡ error_at number self }
     {
         match self {
-            Cause::NotText | Cause::Misspelled | Cause::LateTable => ScriptError::Bad(number),
+            Cause::NotText | Cause::Misspelled | Cause::Misplaced(_) => ScriptError::Bad(number),
             Cause::NoMemory => ScriptError::NoMemory,
             Cause::CannotRead => ScriptError::CannotRead,
         }

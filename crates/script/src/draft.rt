@@ -1,82 +1,58 @@
-ghost use Rattle.std.specs.Prelude.{◌≡◌, [], Some, None, IfOk, IfErr, OnOk, OnErr, is_some};
-ghost use Rattle.script.specs.Drafts.{IsNotAdded, MayFollow, with_line};
-
 use crate::cause::Cause;
-use crate::line::Line;
-use crate::{NumberedCommand, Script, ScriptError, Table};
+use crate::record_error::RecordError;
+use crate::{Explanation, Misfit};
 use std::alloc::Global;
-use std::marker::Model;
 
-/// What was read of a script so far. Contracts see the record `table` and the commands.
-#[derive(Drop)]
-pub struct Draft {
-    table: Option<(usize, Table)>,
-    commands: Vec<NumberedCommand>,
-}
+/// What was read so far of a script of one kind.
+pub trait Draft: Drop {
+    ghost use Rattle.std.specs.Prelude.{◌≡◌, ◌+◌, List, [], ◌∷◌, ◌++◌, length, IfOk, IfErr, IfSome, IfNone, OnOk, MatchOption};
+    ghost use Rattle.script.specs.Fields.{texts};
+    ghost use Rattle.script.specs.Grammars.{Grammar, IsClear, MayStand, names};
+    ghost use Rattle.script.specs.Explanations.{IsLacking};
+    ghost use Rattle.script.specs.Stops.{IsNotPut};
 
-impl Model for Draft {
-    ghost use Rattle.script.specs.Drafts.{DraftValue};
+    /// What a record turned out to be.
+    type Line: Drop;
 
-    ghost Value = { DraftValue };
+    type Script: Drop;
 
-    ghost view = { λ draft. record { table = draft.table; commands = draft.commands.items } };
-}
+    /// The names of records.
+    ghost Name: { Type 0 };
 
-impl Draft {
-    pub fn new(alloc: Global) -> Draft
-        ensures table { result.table ≡ None }
-        ensures commands { result.commands ≡ [] }
-    {
-        Draft {
-            table: None,
-            commands: Vec::new(alloc),
-        }
-    }
+    ghost grammar: { Grammar Name Self.Line };
 
-    /// Adds the record of that number. A record `table` is bad unless it is the first that counts.
-    pub fn add(&mut self, number: usize, line: Line) -> Result<(), Cause>
-        ensures ok { OnOk result (self.new ≡ with_line self.old number line) }
-        ensures accepted { OnOk result (MayFollow self.old line) }
-        ensures refused { IfErr result (IsNotAdded self.old line) }
-        ensures unchanged { OnErr result (self.new ≡ self.old) }
-    {
-        match line {
-            Line::PassedOver => Ok(()),
-            Line::Table(table) => {
-                if self.table.is_some() || !self.commands.is_empty() {
-                    return Err(Cause::LateTable);
-                }
-                self.table = Some((number, table));
-                Ok(())
-            }
-            Line::Command(command) => {
-                self.commands.push(NumberedCommand { number, command })?;
-                Ok(())
-            }
-        }
-    }
+    /// The draft has what the lines give.
+    ghost has: { Self → List Self.Line → Type 0 };
 
-    /// Whether the table was read.
-    pub fn has_table(&self) -> bool
-        ensures { result ≡ is_some self.now.table }
-    {
-        self.table.is_some()
-    }
+    /// The script has what the lines give.
+    ghost gives: { List Self.Line → Self.Script → Type 0 };
 
-    /// The script, whose records end before that number. One with no table is bad there.
-    pub fn finish(self, number: usize) -> Result<Script, ScriptError>
-        ensures table { IfOk result (λ script. self.table ≡ Some (script.table_number, script.table)) }
-        ensures commands { IfOk result (λ script. script.commands.items ≡ self.commands) }
-        ensures refused { IfErr result (λ error. (error ≡ ScriptError.Bad number) × (self.table ≡ None)) }
-    {
-        let Draft { table, commands } = self;
-        match table {
-            Some((table_number, table)) => Ok(Script {
-                table_number,
-                table,
-                commands,
-            }),
-            None => Err(ScriptError::Bad(number)),
-        }
-    }
+    fn new(alloc: Global) -> Self
+        ensures blank { has result [] }
+        ensures clear { IsClear grammar };
+
+    /// What the fields of a record ask for.
+    fn line(alloc: Global, fields: &[&str]) -> Result<Self::Line, RecordError>
+        ensures ok { IfOk result (λ line. grammar.spells (texts fields.now) line) }
+        ensures refused { result ≡ Err RecordError.Misspelled → ¬ (grammar.has_shape (texts fields.now)) };
+
+    /// What is wrong with the fields of a record, if anything is.
+    fn misfit(alloc: Global, fields: &[&str]) -> Result<Option<Misfit>, RecordError>
+        ensures { IfOk result (λ found. MatchOption found (grammar.has_shape (texts fields.now)) (λ misfit. grammar.tells_misfit (texts fields.now) misfit)) };
+
+    /// Adds the line of that number, unless it may not come behind those that were read.
+    fn add(&mut self, number: usize, line: Self::Line) -> Result<(), Cause>
+        ensures ok { OnOk result ((lines : List Self.Line) → has self.old lines → number ≡ length lines + 1
+            → MayStand grammar lines line × has self.new (lines ++ line ∷ [])) }
+        ensures refused { IfErr result (λ cause. (lines : List Self.Line) → has self.old lines → IsNotPut grammar lines line cause) };
+
+    /// What is missing where no record is left, if anything is.
+    fn missing(&self) -> Option<Explanation>
+        ensures some { IfSome result (λ missing. (lines : List Self.Line) → has self.now lines → IsLacking grammar lines missing) }
+        ensures none { IfNone result ((lines : List Self.Line) → has self.now lines → grammar.are_whole (names grammar lines)) };
+
+    /// The script, of which nothing may be missing.
+    fn finish(self) -> Self::Script
+        requires { (lines : List Self.Line) × has self lines × grammar.are_whole (names grammar lines) }
+        ensures { (lines : List Self.Line) → has self lines → gives lines result };
 }

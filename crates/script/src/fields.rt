@@ -1,22 +1,20 @@
 //! How the fields of a record are spelled.
-ghost use Rattle.std.specs.Prelude.{◌≡◌, ℕ, ◌<◌, Bool, false, List, [], ◌∷◌, ◌++◌, IfOk, IfErr, IfSome, IfNone, Option, Some, None};
+ghost use Rattle.std.specs.Prelude.{◌≡◌, ◌==◌, ℕ, ◌<◌, Bool, false, List, [], ◌∷◌, ◌++◌, IfOk, IfErr, IfSome, IfNone, Option, Some, None};
 ghost use Rattle.std.specs.Char.{is_ascii_digit};
-ghost use Rattle.keybytes.specs.declared.cell.Cell.{Cell as CellValue};
+ghost use Rattle.std.specs.List.{AllZip, slice_split};
 ghost use Rattle.keybytes.specs.declared.key_col.KeyCol.{KeyCol as KeyColValue};
-ghost use Rattle.keybytes.specs.declared.kind.Kind.{Kind as KindValue};
 ghost use Rattle.keybytes.specs.declared.rid.Rid.{Rid as RidValue};
 ghost use Rattle.keybytes.specs.declared.when.When.{When as WhenValue};
 ghost use Rattle.scan_range.specs.declared.dealing.Dealing.{Dealing as DealingValue};
-ghost use Rattle.script.specs.declared.spec.Spec.{Spec as SpecValue};
 ghost use Rattle.run_spool.specs.declared.choice.SpoolChoice.{SpoolChoice as SpoolChoiceValue};
-ghost use Rattle.script.specs.declared.part.Part.TheVariants as part;
 ghost use Rattle.script.specs.Shapes.{Fit};
-ghost use Rattle.script.specs.Fields.{number_of, int_of, slot_of, texts, SpellEach, SpellsCell, SpellsDealing, SpellsKind, SpellsNumbers, SpellsRid};
-ghost use Rattle.script.specs.Fields.{spec_front, SpellsColumn, SpellsColumns, SpellsKey, SpellsNumberBefore, SpellsSession, SpellsSpec, SpellsSpools};
-ghost use Rattle.script.specs.Fields.{SpellsWhen};
+ghost use Rattle.script.specs.declared.part.Part.TheVariants as part;
+ghost use Rattle.script.specs.Fields.{number_of, int_of, slot_of, texts, SpellEach, SpellsDealing, SpellsRid};
+ghost use Rattle.script.specs.Fields.{spec_front, SpellsKey, SpellsNumberBefore, SpellsSession, SpellsSpools, SpellsWhen};
 
 use crate::Spec;
 use crate::record_error::RecordError;
+use crate::spelled::{Field, Spelled};
 use keybytes::{Cell, KeyCol, Kind, Rid, Text, When};
 use run_spool::SpoolChoice;
 use scan_range::Dealing;
@@ -91,101 +89,119 @@ fn int(text: &str) -> Option<i64>
     text.parse::<i64>().ok()
 }
 
-/// A cell: `~` for Null, digits with or without `-` for a number, `=` and a text, `true` or `false`.
-pub fn cell(alloc: Global, text: &str) -> Result<Cell, RecordError>
-    ensures ok { IfOk result (λ cell. SpellsCell text.now cell) }
-    ensures refused { result ≡ Err RecordError.Misspelled → (cell : CellValue) → SpellsCell text.now cell → ⊥ }
-{
-    if let Some(text) = text.strip_prefix('=') {
-        let string = String::from_str(alloc, text)?;
-        return Ok(Cell::Text(Text::new(string)));
+impl Spelled for Cell {
+    ghost use Rattle.script.specs.Fields.{SpellsCell};
+
+    ghost spells = { SpellsCell };
+
+    /// `~` for Null, digits with or without `-` for a number, `=` and a text, `true` or `false`.
+    fn spelled(alloc: Global, text: &str) -> Result<Cell, RecordError> {
+        if let Some(text) = text.strip_prefix('=') {
+            let string = String::from_str(alloc, text)?;
+            return Ok(Cell::Text(Text::new(string)));
+        }
+        match text {
+            "~" => Ok(Cell::Null),
+            "true" => Ok(Cell::Flag(true)),
+            "false" => Ok(Cell::Flag(false)),
+            _ => match int(text) {
+                Some(number) => Ok(Cell::Int(number)),
+                None => Err(RecordError::Misspelled),
+            },
+        }
     }
-    match text {
-        "~" => Ok(Cell::Null),
-        "true" => Ok(Cell::Flag(true)),
-        "false" => Ok(Cell::Flag(false)),
-        _ => match int(text) {
-            Some(number) => Ok(Cell::Int(number)),
+}
+
+impl Field for Cell {
+    ghost part = { part.Cell };
+
+    ghost is_part = { λ _ spelled. spelled };
+}
+
+impl Spelled for Kind {
+    ghost use Rattle.script.specs.Fields.{SpellsKind};
+
+    ghost spells = { SpellsKind };
+
+    /// `int`, `text` or `flag`.
+    fn spelled(_alloc: Global, text: &str) -> Result<Kind, RecordError> {
+        match text {
+            "int" => Ok(Kind::Int),
+            "text" => Ok(Kind::Text),
+            "flag" => Ok(Kind::Flag),
+            _ => Err(RecordError::Misspelled),
+        }
+    }
+}
+
+impl Field for Kind {
+    ghost part = { part.Kind };
+
+    ghost is_part = { λ _ spelled. spelled };
+}
+
+impl Spelled for KeyCol {
+    ghost use Rattle.script.specs.Fields.{SpellsColumn};
+
+    ghost spells = { SpellsColumn };
+
+    /// The number of a column, and behind it a `d` where it descends.
+    fn spelled(_alloc: Global, text: &str) -> Result<KeyCol, RecordError> {
+        if let Some(column) = number(text) {
+            return Ok(KeyCol {
+                column: column as usize,
+                descending: false,
+            });
+        }
+        let Some(digits) = text.strip_suffix('d') else {
+            return Err(RecordError::Misspelled);
+        };
+        match number(digits) {
+            Some(column) => Ok(KeyCol {
+                column: column as usize,
+                descending: true,
+            }),
             None => Err(RecordError::Misspelled),
-        },
+        }
     }
 }
 
-/// One or more cells.
-pub fn cells(alloc: Global, fields: &[&str]) -> Result<Vec<Cell>, RecordError>
-    ensures ok { IfOk result (λ cells. SpellEach SpellsCell (texts fields.now) cells.items) }
-    ensures refused { result ≡ Err RecordError.Misspelled → ¬ (Fit (part.Cell ∷ []) (Some part.Cell) (texts fields.now)) }
-{
-    if fields.is_empty() {
-        return Err(RecordError::Misspelled);
-    }
-    let mut cells = Vec::with_capacity(alloc, fields.len())?;
-    for field in fields {
-        cells.push(cell(alloc, field)?)?;
-    }
-    Ok(cells)
-}
+impl Spelled for u32 {
+    ghost use Rattle.script.specs.Fields.{SpellsNumber};
 
-pub fn kind(text: &str) -> Option<Kind>
-    ensures some { IfSome result (λ kind. SpellsKind text.now kind) }
-    ensures none { IfNone result ((kind : KindValue) → SpellsKind text.now kind → ⊥) }
-{
-    match text {
-        "int" => Some(Kind::Int),
-        "text" => Some(Kind::Text),
-        "flag" => Some(Kind::Flag),
-        _ => None,
+    ghost spells = { SpellsNumber };
+
+    /// Decimal digits, at most 4,294,967,295.
+    fn spelled(_alloc: Global, text: &str) -> Result<u32, RecordError> {
+        number(text).ok_or(RecordError::Misspelled)
     }
 }
 
-/// One or more kinds of columns.
-pub fn kinds(alloc: Global, fields: &[&str]) -> Result<Vec<Kind>, RecordError>
-    ensures ok { IfOk result (λ kinds. SpellEach SpellsKind (texts fields.now) kinds.items) }
-    ensures refused { result ≡ Err RecordError.Misspelled → ¬ (Fit (part.Kind ∷ []) (Some part.Kind) (texts fields.now)) }
+/// Values whose texts are joined by `;`.
+fn joined<T: Spelled>(alloc: Global, text: &str) -> Result<Vec<T>, RecordError>
+    ensures ok { IfOk result (λ values. AllZip T.spells (slice_split (λ c. c == 59) text.now) values.items) }
+    ensures refused { result ≡ Err RecordError.Misspelled → (values : List T) → AllZip T.spells (slice_split (λ c. c == 59) text.now) values → ⊥ }
 {
-    if fields.is_empty() {
-        return Err(RecordError::Misspelled);
-    }
-    let mut kinds = Vec::with_capacity(alloc, fields.len())?;
-    for field in fields {
-        kinds.push(kind(field).ok_or(RecordError::Misspelled)?)?;
-    }
-    Ok(kinds)
-}
-
-/// The column of a key: its number, and behind it a `d` where it descends.
-fn column(text: &str) -> Result<KeyCol, RecordError>
-    ensures ok { IfOk result (λ named. SpellsColumn text.now named) }
-    ensures refused { IfErr result (λ error. (error ≡ RecordError.Misspelled) × ((named : KeyColValue) → SpellsColumn text.now named → ⊥)) }
-{
-    if let Some(column) = number(text) {
-        return Ok(KeyCol {
-            column: column as usize,
-            descending: false,
-        });
-    }
-    let Some(digits) = text.strip_suffix('d') else {
-        return Err(RecordError::Misspelled);
-    };
-    match number(digits) {
-        Some(column) => Ok(KeyCol {
-            column: column as usize,
-            descending: true,
-        }),
-        None => Err(RecordError::Misspelled),
-    }
-}
-
-/// The columns of a key, joined by `;`.
-fn columns(alloc: Global, text: &str) -> Result<Vec<KeyCol>, RecordError>
-    ensures ok { IfOk result (λ columns. SpellsColumns text.now columns.items) }
-    ensures refused { result ≡ Err RecordError.Misspelled → (columns : List KeyColValue) → SpellsColumns text.now columns → ⊥ }
-{
-    let mut columns = Vec::new(alloc);
+    let mut values = Vec::new(alloc);
     for part in text.split(';') {
-        columns.push(column(part)?)?;
+        values.push(T::spelled(alloc, part)?)?;
     }
-    Ok(columns)
+    Ok(values)
+}
+
+/// One or more values, of which each field spells one.
+pub fn each<T: Field>(alloc: Global, fields: &[&str]) -> Result<Vec<T>, RecordError>
+    ensures ok { IfOk result (λ values. SpellEach T.spells (texts fields.now) values.items) }
+    ensures refused { result ≡ Err RecordError.Misspelled → ¬ (Fit (T.part ∷ []) (Some T.part) (texts fields.now)) }
+{
+    if fields.is_empty() {
+        return Err(RecordError::Misspelled);
+    }
+    let mut values = Vec::with_capacity(alloc, fields.len())?;
+    for field in fields {
+        values.push(T::spelled(alloc, field)?)?;
+    }
+    Ok(values)
 }
 
 /// The number before the first such sign, and what stands behind the sign.
@@ -206,10 +222,10 @@ fn when(alloc: Global, text: &str) -> Result<When, RecordError>
     ensures refused { result ≡ Err RecordError.Misspelled → (condition : WhenValue) → SpellsWhen text.now condition → ⊥ }
 {
     if let Some((column, given)) = number_before('=', text) {
-        return Ok(When::Equal(column, cell(alloc, given)?));
+        return Ok(When::Equal(column, Cell::spelled(alloc, given)?));
     }
     if let Some((column, bound)) = number_before('<', text) {
-        return Ok(When::Less(column, cell(alloc, bound)?));
+        return Ok(When::Less(column, Cell::spelled(alloc, bound)?));
     }
     match number_before('~', text) {
         Some((column, "")) => Ok(When::IsNull(column)),
@@ -224,12 +240,12 @@ fn key(alloc: Global, text: &str) -> Result<(Vec<KeyCol>, Option<When>), RecordE
 {
     match text.split_once('?') {
         Some((columns_text, condition)) => {
-            let columns = columns(alloc, columns_text)?;
+            let columns = joined(alloc, columns_text)?;
             let condition = when(alloc, condition)?;
             Ok((columns, Some(condition)))
         }
         None => {
-            let columns = columns(alloc, text)?;
+            let columns = joined(alloc, text)?;
             Ok((columns, None))
         }
     }
@@ -247,45 +263,27 @@ fn front(text: &str) -> Option<(bool, &str)>
     }
 }
 
-/// A key specification: `n:` or, for a unique one, `u:`, its columns joined by `;`, and `?` and a condition, where it has one.
-pub fn spec(alloc: Global, text: &str) -> Result<Spec, RecordError>
-    ensures ok { IfOk result (λ spec. SpellsSpec text.now spec) }
-    ensures refused { result ≡ Err RecordError.Misspelled → (spec : SpecValue) → SpellsSpec text.now spec → ⊥ }
-{
-    let (unique, rest) = front(text).ok_or(RecordError::Misspelled)?;
-    let (columns, condition) = key(alloc, rest)?;
-    Ok(Spec {
-        unique,
-        columns,
-        condition,
-    })
+impl Spelled for Spec {
+    ghost use Rattle.script.specs.Fields.{SpellsSpec};
+
+    ghost spells = { SpellsSpec };
+
+    /// `n:` or, for a unique one, `u:`, the columns joined by `;`, and `?` and a condition, where it has one.
+    fn spelled(alloc: Global, text: &str) -> Result<Spec, RecordError> {
+        let (unique, rest) = front(text).ok_or(RecordError::Misspelled)?;
+        let (columns, condition) = key(alloc, rest)?;
+        Ok(Spec {
+            unique,
+            columns,
+            condition,
+        })
+    }
 }
 
-/// One or more key specifications.
-pub fn specs(alloc: Global, fields: &[&str]) -> Result<Vec<Spec>, RecordError>
-    ensures ok { IfOk result (λ specs. SpellEach SpellsSpec (texts fields.now) specs.items) }
-    ensures refused { result ≡ Err RecordError.Misspelled → ¬ (Fit (part.Spec ∷ []) (Some part.Spec) (texts fields.now)) }
-{
-    if fields.is_empty() {
-        return Err(RecordError::Misspelled);
-    }
-    let mut specs = Vec::with_capacity(alloc, fields.len())?;
-    for field in fields {
-        specs.push(spec(alloc, field)?)?;
-    }
-    Ok(specs)
-}
+impl Field for Spec {
+    ghost part = { part.Spec };
 
-/// Ends of ranges, joined by `;`.
-fn ends(alloc: Global, text: &str) -> Result<Vec<u32>, RecordError>
-    ensures ok { IfOk result (λ ends. SpellsNumbers text.now ends.items) }
-    ensures refused { result ≡ Err RecordError.Misspelled → (ends : List ℕ) → SpellsNumbers text.now ends → ⊥ }
-{
-    let mut ends = Vec::new(alloc);
-    for end in text.split(';') {
-        ends.push(number(end).ok_or(RecordError::Misspelled)?)?;
-    }
-    Ok(ends)
+    ghost is_part = { λ _ spelled. spelled };
 }
 
 /// How the pages are dealt into ranges: the ends of the ranges joined by `;`, or `even:` and how many there are.
@@ -295,7 +293,7 @@ pub fn dealing(alloc: Global, text: &str) -> Result<Dealing, RecordError>
 {
     match text.strip_prefix("even:") {
         Some(ranges) => Ok(Dealing::Even(count(ranges)?)),
-        None => Ok(Dealing::Ends(ends(alloc, text)?)),
+        None => Ok(Dealing::Ends(joined(alloc, text)?)),
     }
 }
 

@@ -1,72 +1,38 @@
-//! Whether the fields of a record fit its command.
-ghost use Rattle.std.specs.Prelude.{◌≡◌, IfOk, MatchOption};
-ghost use Rattle.csv.specs.Records.{fields_of};
-ghost use Rattle.script.specs.Explanations.{TellsMisfit, TellsMisfitBehind, TellsUnfit};
+//! Whether the fields behind a name fit it.
+ghost use Rattle.std.specs.Prelude.{◌≡◌, ◌≤◌, IfOk, MatchOption};
 ghost use Rattle.script.specs.Fields.{texts};
-ghost use Rattle.script.specs.Shapes.{Fit, Fits, HasShape, part_at};
+ghost use Rattle.script.specs.Misfits.{TellsMisfitBehind, TellsUnfit};
+ghost use Rattle.script.specs.Shapes.{Fit, Fits, part_at};
 
-use crate::parse::fields;
 use crate::record_error::RecordError;
 use crate::{CommandName, Misfit, Part, Unfit};
-use csv::StringRecord;
 use std::alloc::Global;
 
-/// What is wrong with the fields of a record, if anything is.
-pub fn misfit(alloc: Global, record: &StringRecord) -> Result<Option<Misfit>, RecordError>
-    ensures { IfOk result (λ found. MatchOption found (HasShape (fields_of «record».now)) (TellsMisfit (fields_of «record».now))) }
-{
-    let fields = fields(alloc, record)?;
-    misfit_of(alloc, fields.as_slice())
-}
-
-fn misfit_of(alloc: Global, fields: &[&str]) -> Result<Option<Misfit>, RecordError>
-    ensures { IfOk result (λ found. MatchOption found (HasShape (texts fields.now)) (TellsMisfit (texts fields.now))) }
-{
-    let Some((first, parts)) = fields.split_first() else {
-        let text = String::new(alloc);
-        return Ok(Some(Misfit::UnknownCommand { text }));
-    };
-    if first.starts_with('#') {
-        return Ok(None);
-    }
-    match CommandName::read(first) {
-        Some(name) => misfit_behind(alloc, name, parts),
-        None => {
-            let text = String::from_str(alloc, first)?;
-            Ok(Some(Misfit::UnknownCommand { text }))
-        }
-    }
-}
-
-/// What is wrong with the fields behind a name.
-fn misfit_behind(
+/// What is wrong with the fields behind the name of a command.
+pub fn misfit_behind(
     alloc: Global,
     name: CommandName,
     fields: &[&str],
 ) -> Result<Option<Misfit>, RecordError>
     ensures { IfOk result (λ found. MatchOption found (Fits name (texts fields.now)) (TellsMisfitBehind name (texts fields.now))) }
 {
-    let found = unfit(alloc, name.parts(), name.repeated(), fields)?;
-    Ok(match found {
-        None => None,
-        Some(Unfit::TooFew) => Some(Misfit::TooFewFields { name }),
-        Some(Unfit::TooMany) => Some(Misfit::TooManyFields { name }),
-        Some(Unfit::Misspelled { place, text, part }) => Some(Misfit::Misspelled {
-            field: place + 2,
-            text,
-            part,
-        }),
-    })
+    match unfit(alloc, name.parts(), name.repeated(), 2, fields)? {
+        None => Ok(None),
+        Some(unfit) => Ok(Some(Misfit::Behind { name, unfit })),
+    }
 }
 
-/// In which way the fields don't fit the parts, if they don't. Fields behind the last part are to spell the repeated one.
+/// In which way the fields don't fit the parts, if they don't, where the first of them has that number in its record.
+/// Fields behind the last part are to spell the repeated one.
 pub fn unfit(
     alloc: Global,
     parts: &[Part],
     repeated: Option<Part>,
+    first: usize,
     fields: &[&str],
 ) -> Result<Option<Unfit>, RecordError>
-    ensures { IfOk result (λ found. MatchOption found (Fit parts.now repeated (texts fields.now)) (TellsUnfit parts.now repeated (texts fields.now))) }
+    requires { first ≤ 4 }
+    ensures { IfOk result (λ found. MatchOption found (Fit parts.now repeated (texts fields.now)) (TellsUnfit parts.now repeated first (texts fields.now))) }
 {
     for (place, field) in fields.iter().enumerate() {
         let Some(part) = part_at(parts, repeated, place) else {
@@ -74,7 +40,11 @@ pub fn unfit(
         };
         if !part.accepts(alloc, field)? {
             let text = String::from_str(alloc, field)?;
-            return Ok(Some(Unfit::Misspelled { place, text, part }));
+            return Ok(Some(Unfit::Misspelled {
+                field: first + place,
+                text,
+                part,
+            }));
         }
     }
     if fields.len() < parts.len() {

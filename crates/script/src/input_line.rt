@@ -6,10 +6,11 @@ ghost use Rattle.script.specs.InputLines.{IsTold, TellsNext};
 ghost use Rattle.script.specs.Records.{records_of};
 ghost use Rattle.script.specs.Shapes.{HasShape};
 
-use crate::fitting::misfit;
+use crate::reading::{line, misfit};
 use crate::record_error::RecordError;
 use crate::records::Records;
-use crate::{Explanation, InputRecord, Misfit, ScriptError, parse};
+use crate::script_draft::ScriptDraft;
+use crate::{Explanation, InputRecord, Misfit, ScriptError};
 use csv::{ByteRecord, StringRecord};
 use std::alloc::Global;
 
@@ -59,7 +60,7 @@ fn tell_text(alloc: Global, record: &StringRecord) -> Result<InputRecord, Script
     ensures told { IfOk result (IsTold (fields_of «record».now)) }
     ensures memory { IfErr result (λ error. error ≡ ScriptError.NoMemory) }
 {
-    match parse::line(alloc, record) {
+    match line::<ScriptDraft>(alloc, record) {
         Ok(line) => Ok(InputRecord::Good(line)),
         Err(RecordError::Misspelled) => tell_misfit(alloc, record),
         Err(RecordError::NoMemory) => Err(ScriptError::NoMemory),
@@ -73,7 +74,7 @@ fn tell_misfit(alloc: Global, record: &StringRecord) -> Result<InputRecord, Scri
     ensures told { IfOk result (IsTold (fields_of «record».now)) }
     ensures memory { IfErr result (λ error. error ≡ ScriptError.NoMemory) }
 {
-    match misfit(alloc, record) {
+    match misfit::<ScriptDraft>(alloc, record) {
         Ok(Some(Misfit::UnknownCommand { text })) if record.len() == 1 => {
             Ok(InputRecord::Word(text))
         }

@@ -28,8 +28,10 @@ mod reading;
 mod record_error;
 mod records;
 mod script;
+mod script_draft;
 mod script_error;
 mod spec;
+mod spelled;
 mod start;
 mod stop;
 mod table;
@@ -48,10 +50,7 @@ pub use line::Line;
 pub use misfit::Misfit;
 pub use numbered_command::NumberedCommand;
 pub use part::Part;
-pub use race::{
-    Build, RaceCheckError, RaceExplanation, RaceMisfit, RaceName, RaceScript, SessionCommand,
-    SessionStep,
-};
+pub use race::{Build, RaceName, RaceScript, SessionCommand, SessionStep};
 pub use records::Records;
 pub use script::{Script, read_text};
 pub use script_error::ScriptError;

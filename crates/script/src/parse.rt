@@ -2,30 +2,22 @@
 ghost use Rattle.std.specs.Prelude.{◌≡◌, ◌⊎◌, ℕ, List, [], ◌∷◌, Some, None, IfOk, IfErr};
 ghost use Rattle.std.specs.List.{AllZip};
 ghost use Rattle.csv.specs.Records.{fields_of};
-ghost use Rattle.script.specs.Fields.{texts, SpellEach, SpellsCell, SpellsNumber, SpellsRid, SpellsSpec, SpellsSpools};
-ghost use Rattle.script.specs.Lines.{name_of, SpellLine, SpellParts, SpellStart, SpellTable, SpellsLabel};
-ghost use Rattle.script.specs.Shapes.{Fit, Fits, HasShape, written};
+ghost use Rattle.script.specs.Fields.{texts, SpellsNumber, SpellsRid, SpellsSpec, SpellsSpools};
+ghost use Rattle.script.specs.Lines.{SpellBuild, SpellLine, SpellTable, SpellsLabel};
+ghost use Rattle.script.specs.Shapes.{Fit, Fits, written};
 ghost use Rattle.script.specs.declared.command_name.CommandName.TheVariants as name;
 ghost use Rattle.script.specs.declared.part.Part.{Part as PartValue};
 ghost use Rattle.script.specs.declared.part.Part.TheVariants as part;
 
-use crate::fields::{cells, count, dealing, kinds, number, rid, spec, specs, spools};
+use crate::fields::{count, dealing, each, number, rid, spools};
 use crate::line::Line;
 use crate::record_error::RecordError;
-use crate::{Command, CommandName, Label, Spec, Start, Table};
+use crate::spelled::Spelled;
+use crate::{Build, Command, CommandName, Label, Spec, Start, Table};
 use csv::StringRecord;
 use keybytes::{Cell, Rid};
 use run_spool::SpoolChoice;
 use std::alloc::Global;
-
-/// What a record of a script asks for.
-pub fn line(alloc: Global, record: &StringRecord) -> Result<Line, RecordError>
-    ensures ok { IfOk result (λ line. SpellLine (fields_of «record».now) line) }
-    ensures refused { result ≡ Err RecordError.Misspelled → ¬ (HasShape (fields_of «record».now)) }
-{
-    let fields = fields(alloc, record)?;
-    line_of(alloc, fields.as_slice())
-}
 
 /// The fields of a record.
 pub fn fields<'a>(alloc: Global, record: &'a StringRecord) -> Result<Vec<&'a str>, RecordError>
@@ -34,20 +26,6 @@ pub fn fields<'a>(alloc: Global, record: &'a StringRecord) -> Result<Vec<&'a str
 {
     let fields = record.iter().collect(alloc)?;
     Ok(fields)
-}
-
-fn line_of(alloc: Global, fields: &[&str]) -> Result<Line, RecordError>
-    ensures ok { IfOk result (λ line. SpellLine (texts fields.now) line) }
-    ensures refused { result ≡ Err RecordError.Misspelled → ¬ (HasShape (texts fields.now)) }
-{
-    let (first, parts) = first(fields)?;
-    if first.starts_with('#') {
-        return Ok(Line::PassedOver);
-    }
-    match CommandName::read(first) {
-        Some(name) => named(alloc, name, parts),
-        None => Err(RecordError::Misspelled),
-    }
 }
 
 /// The first field, and those behind it.
@@ -78,7 +56,7 @@ pub fn table(alloc: Global, fields: &[&str]) -> Result<Table, RecordError>
     let (slot_limit, columns) = first(fields)?;
     Ok(Table {
         slot_limit: number(slot_limit).ok_or(RecordError::Misspelled)?,
-        kinds: kinds(alloc, columns)?,
+        kinds: each(alloc, columns)?,
     })
 }
 
@@ -87,96 +65,96 @@ pub fn named(alloc: Global, name: CommandName, fields: &[&str]) -> Result<Line, 
     ensures ok { IfOk result (λ line. SpellLine (written name ∷ texts fields.now) line) }
     ensures refused { result ≡ Err RecordError.Misspelled → ¬ (Fits name (texts fields.now)) }
 {
-    Ok(Line::Command(match name {
-        CommandName::Table => return Ok(Line::Table(table(alloc, fields)?)),
-        CommandName::Row => Command::Row {
-            cells: cells(alloc, fields)?,
-        },
-        CommandName::Insert => insert(alloc, fields)?,
-        CommandName::Update => update(alloc, fields)?,
-        CommandName::Delete => delete(alloc, fields)?,
-        CommandName::Get => Command::Get {
+    match name {
+        CommandName::Table => Ok(Line::Table(table(alloc, fields)?)),
+        CommandName::Row => Ok(Line::Command(Command::Row {
+            cells: each(alloc, fields)?,
+        })),
+        CommandName::Insert => insert(alloc, fields),
+        CommandName::Update => update(alloc, fields),
+        CommandName::Delete => delete(alloc, fields),
+        CommandName::Get => Ok(Line::Command(Command::Get {
             rid: only_rid(fields)?,
-        },
-        CommandName::Spools => Command::Spools {
+        })),
+        CommandName::Spools => Ok(Line::Command(Command::Spools {
             choice: only_spools(fields)?,
-        },
-        CommandName::Start => Command::Start(start(alloc, fields)?),
-        CommandName::Rest => Command::Rest {
+        })),
+        CommandName::Start => start(alloc, fields),
+        CommandName::Rest => Ok(Line::Command(Command::Rest {
             spec: only_spec(alloc, fields)?,
-        },
+        })),
         CommandName::Begin | CommandName::Undo | CommandName::Commit => {
-            labelled(alloc, name, fields)?
+            labelled(alloc, name, fields)
         }
         CommandName::Scan => {
             let (range, worker) = two_counts(fields)?;
-            Command::Scan { range, worker }
+            Ok(Line::Command(Command::Scan { range, worker }))
         }
-        CommandName::Feed | CommandName::Apply => moving(name, fields)?,
+        CommandName::Feed | CommandName::Apply => moving(name, fields),
         CommandName::Digest
         | CommandName::Seal
         | CommandName::Load
         | CommandName::Side
-        | CommandName::Pairs => numbered(name, fields)?,
-        CommandName::Fence | CommandName::Switch | CommandName::Abandon => bare(name, fields)?,
-    }))
+        | CommandName::Pairs => numbered(name, fields),
+        CommandName::Fence | CommandName::Switch | CommandName::Abandon => bare(name, fields),
+    }
 }
 
 /// The command of that name which comes with a label alone.
-fn labelled(alloc: Global, which: CommandName, fields: &[&str]) -> Result<Command, RecordError>
+fn labelled(alloc: Global, which: CommandName, fields: &[&str]) -> Result<Line, RecordError>
     requires { (which ≡ name.Begin) ⊎ (which ≡ name.Undo) ⊎ (which ≡ name.Commit) }
-    ensures ok { IfOk result (λ command. (name_of command ≡ which) × SpellParts (texts fields.now) command) }
+    ensures ok { IfOk result (λ line. SpellLine (written which ∷ texts fields.now) line) }
     ensures refused { result ≡ Err RecordError.Misspelled → ¬ (Fits which (texts fields.now)) }
 {
     let label = only_label(alloc, fields)?;
-    Ok(match which {
+    Ok(Line::Command(match which {
         CommandName::Undo => Command::Undo { label },
         CommandName::Commit => Command::Commit { label },
         _ => Command::Begin { label },
-    })
+    }))
 }
 
 /// The command of that name which moves so many entries of an index.
-fn moving(which: CommandName, fields: &[&str]) -> Result<Command, RecordError>
+fn moving(which: CommandName, fields: &[&str]) -> Result<Line, RecordError>
     requires { (which ≡ name.Feed) ⊎ (which ≡ name.Apply) }
-    ensures ok { IfOk result (λ command. (name_of command ≡ which) × SpellParts (texts fields.now) command) }
+    ensures ok { IfOk result (λ line. SpellLine (written which ∷ texts fields.now) line) }
     ensures refused { result ≡ Err RecordError.Misspelled → ¬ (Fits which (texts fields.now)) }
 {
     let (index, most) = two_counts(fields)?;
-    Ok(match which {
+    Ok(Line::Command(match which {
         CommandName::Feed => Command::Feed { index, most },
         _ => Command::Apply { index, most },
-    })
+    }))
 }
 
 /// The command of that name which comes with a number alone.
-fn numbered(which: CommandName, fields: &[&str]) -> Result<Command, RecordError>
+fn numbered(which: CommandName, fields: &[&str]) -> Result<Line, RecordError>
     requires { (which ≡ name.Digest) ⊎ (which ≡ name.Seal) ⊎ (which ≡ name.Load) ⊎ (which ≡ name.Side) ⊎ (which ≡ name.Pairs) }
-    ensures ok { IfOk result (λ command. (name_of command ≡ which) × SpellParts (texts fields.now) command) }
+    ensures ok { IfOk result (λ line. SpellLine (written which ∷ texts fields.now) line) }
     ensures refused { result ≡ Err RecordError.Misspelled → ¬ (Fits which (texts fields.now)) }
 {
     let number = only_count(fields)?;
-    Ok(match which {
+    Ok(Line::Command(match which {
         CommandName::Digest => Command::Digest { worker: number },
         CommandName::Seal => Command::Seal { worker: number },
         CommandName::Load => Command::Load { index: number },
         CommandName::Side => Command::Side { index: number },
         _ => Command::Pairs { number },
-    })
+    }))
 }
 
 /// The command of that name which comes with nothing.
-fn bare(which: CommandName, fields: &[&str]) -> Result<Command, RecordError>
+fn bare(which: CommandName, fields: &[&str]) -> Result<Line, RecordError>
     requires { (which ≡ name.Fence) ⊎ (which ≡ name.Switch) ⊎ (which ≡ name.Abandon) }
-    ensures ok { IfOk result (λ command. (name_of command ≡ which) × SpellParts (texts fields.now) command) }
+    ensures ok { IfOk result (λ line. SpellLine (written which ∷ texts fields.now) line) }
     ensures refused { result ≡ Err RecordError.Misspelled → ¬ (Fits which (texts fields.now)) }
 {
     none(fields)?;
-    Ok(match which {
+    Ok(Line::Command(match which {
         CommandName::Fence => Command::Fence,
         CommandName::Switch => Command::Switch,
         _ => Command::Abandon,
-    })
+    }))
 }
 
 pub fn none(fields: &[&str]) -> Result<(), RecordError>
@@ -196,39 +174,39 @@ fn only_label(alloc: Global, fields: &[&str]) -> Result<Label, RecordError>
     Label::read(alloc, only(fields)?)
 }
 
-fn insert(alloc: Global, fields: &[&str]) -> Result<Command, RecordError>
-    ensures ok { IfOk result (λ command. (name_of command ≡ name.Insert) × SpellParts (texts fields.now) command) }
+fn insert(alloc: Global, fields: &[&str]) -> Result<Line, RecordError>
+    ensures ok { IfOk result (λ line. SpellLine (written name.Insert ∷ texts fields.now) line) }
     ensures refused { result ≡ Err RecordError.Misspelled → ¬ (Fits name.Insert (texts fields.now)) }
 {
     let (label, columns) = first(fields)?;
-    Ok(Command::Insert {
+    Ok(Line::Command(Command::Insert {
         label: Label::read(alloc, label)?,
-        cells: cells(alloc, columns)?,
-    })
+        cells: each(alloc, columns)?,
+    }))
 }
 
-fn update(alloc: Global, fields: &[&str]) -> Result<Command, RecordError>
-    ensures ok { IfOk result (λ command. (name_of command ≡ name.Update) × SpellParts (texts fields.now) command) }
+fn update(alloc: Global, fields: &[&str]) -> Result<Line, RecordError>
+    ensures ok { IfOk result (λ line. SpellLine (written name.Update ∷ texts fields.now) line) }
     ensures refused { result ≡ Err RecordError.Misspelled → ¬ (Fits name.Update (texts fields.now)) }
 {
     let (label, more) = first(fields)?;
     let (place, columns) = first(more)?;
-    Ok(Command::Update {
+    Ok(Line::Command(Command::Update {
         label: Label::read(alloc, label)?,
         rid: rid(place)?,
-        cells: cells(alloc, columns)?,
-    })
+        cells: each(alloc, columns)?,
+    }))
 }
 
-fn delete(alloc: Global, fields: &[&str]) -> Result<Command, RecordError>
-    ensures ok { IfOk result (λ command. (name_of command ≡ name.Delete) × SpellParts (texts fields.now) command) }
+fn delete(alloc: Global, fields: &[&str]) -> Result<Line, RecordError>
+    ensures ok { IfOk result (λ line. SpellLine (written name.Delete ∷ texts fields.now) line) }
     ensures refused { result ≡ Err RecordError.Misspelled → ¬ (Fits name.Delete (texts fields.now)) }
 {
     let (label, more) = first(fields)?;
-    Ok(Command::Delete {
+    Ok(Line::Command(Command::Delete {
         label: Label::read(alloc, label)?,
         rid: only_rid(more)?,
-    })
+    }))
 }
 
 fn only_rid(fields: &[&str]) -> Result<Rid, RecordError>
@@ -250,15 +228,14 @@ fn two_counts(fields: &[&str]) -> Result<(usize, usize), RecordError>
     ensures refused { result ≡ Err RecordError.Misspelled → ¬ (Fits name.Scan (texts fields.now)) }
 {
     let (one, more) = first(fields)?;
-    let two = only(more)?;
-    Ok((count(one)?, count(two)?))
+    Ok((count(one)?, only_count(more)?))
 }
 
 fn only_spec(alloc: Global, fields: &[&str]) -> Result<Spec, RecordError>
     ensures ok { IfOk result (λ spec. AllZip SpellsSpec (texts fields.now) (spec ∷ [])) }
     ensures refused { result ≡ Err RecordError.Misspelled → ¬ (Fits name.Rest (texts fields.now)) }
 {
-    spec(alloc, only(fields)?)
+    Spec::spelled(alloc, only(fields)?)
 }
 
 pub fn only_spools(fields: &[&str]) -> Result<SpoolChoice, RecordError>
@@ -268,18 +245,37 @@ pub fn only_spools(fields: &[&str]) -> Result<SpoolChoice, RecordError>
     spools(only(fields)?).ok_or(RecordError::Misspelled)
 }
 
-/// The workers, the quota, the dealing and the indexes of a build.
-fn start(alloc: Global, fields: &[&str]) -> Result<Start, RecordError>
-    ensures ok { IfOk result (λ start. SpellStart (texts fields.now) start) }
+/// The workers of a build, and what else it comes with.
+fn start(alloc: Global, fields: &[&str]) -> Result<Line, RecordError>
+    ensures ok { IfOk result (λ line. SpellLine (written name.Start ∷ texts fields.now) line) }
     ensures refused { result ≡ Err RecordError.Misspelled → ¬ (Fits name.Start (texts fields.now)) }
 {
     let (workers, more) = first(fields)?;
-    let (quota, more) = first(more)?;
+    let workers = count(workers)?;
+    let Build {
+        quota,
+        dealing,
+        specs,
+    } = build(alloc, more)?;
+    Ok(Line::Command(Command::Start(Start {
+        workers,
+        quota,
+        dealing,
+        specs,
+    })))
+}
+
+/// The quota, the dealing and the indexes of a build.
+pub fn build(alloc: Global, fields: &[&str]) -> Result<Build, RecordError>
+    ensures ok { IfOk result (λ build. SpellBuild (texts fields.now) build) }
+    ensures refused { result ≡ Err RecordError.Misspelled
+        → ¬ (Fit (part.Number ∷ part.Dealing ∷ part.Spec ∷ []) (Some part.Spec) (texts fields.now)) }
+{
+    let (quota, more) = first(fields)?;
     let (ranges, indexes) = first(more)?;
-    Ok(Start {
-        workers: count(workers)?,
+    Ok(Build {
         quota: count(quota)?,
         dealing: dealing(alloc, ranges)?,
-        specs: specs(alloc, indexes)?,
+        specs: each(alloc, indexes)?,
     })
 }

@@ -1,10 +1,12 @@
 ghost use Rattle.std.specs.Prelude.{◌≡◌, IfOk, IsOk, true, false};
 ghost use Rattle.script.specs.Shapes.{IsSpelled};
 
-use crate::CommandName;
-use crate::fields::{cell, dealing, kind, number, rid, session, spec, spools};
+use crate::fields::{dealing, number, rid, session, spools};
 use crate::label::is_label;
 use crate::record_error::RecordError;
+use crate::spelled::Spelled;
+use crate::{CommandName, Spec};
+use keybytes::{Cell, Kind};
 use std::alloc::Global;
 use std::fmt;
 
@@ -34,10 +36,10 @@ impl Part {
             Part::Number => Ok(number(text).is_some()),
             Part::Label => Ok(is_label(text)),
             Part::Rid => is_good(rid(text)),
-            Part::Cell => is_good(cell(alloc, text)),
-            Part::Kind => Ok(kind(text).is_some()),
+            Part::Cell => is_good(Cell::spelled(alloc, text)),
+            Part::Kind => is_good(Kind::spelled(alloc, text)),
             Part::Dealing => is_good(dealing(alloc, text)),
-            Part::Spec => is_good(spec(alloc, text)),
+            Part::Spec => is_good(Spec::spelled(alloc, text)),
             Part::Spools => Ok(spools(text).is_some()),
             Part::Session => Ok(session(text).is_some()),
             Part::SessionCommand => Ok(CommandName::read_of_session(text).is_some()),

@@ -2,18 +2,25 @@ ghost use Rattle.std.specs.Prelude.{◌≡◌};
 ghost use Rattle.script.specs.declared.script_error.ScriptError.TheVariants.{NoMemory};
 
 use std::alloc::AllocFailed;
-use thiserror::Error;
+use std::fmt;
 
 /// Why a script can't be run.
-#[derive(Clone, Copy, Debug, PartialEq, Eq, Error)]
+#[derive(Clone, Copy)]
 pub enum ScriptError {
-    #[error("cannot be read")]
     CannotRead,
-    #[error("no memory")]
     NoMemory,
     /// With the number of the first bad record.
-    #[error("record {0} is bad")]
     Bad(usize),
+}
+
+impl fmt::Display for ScriptError {
+    fn fmt<W: fmt::Write>(&self, f: &mut fmt::Formatter<W>) -> fmt::Result {
+        match self {
+            ScriptError::CannotRead => f.write_str("cannot be read"),
+            ScriptError::NoMemory => f.write_str("no memory"),
+            ScriptError::Bad(number) => write!(f, "record {number} is bad"),
+        }
+    }
 }
 
 impl<T: Drop> From<AllocFailed<T>> for ScriptError {

@@ -5,9 +5,9 @@ use crate::Part;
 pub enum Unfit {
     TooFew,
     TooMany,
-    /// The one at that place is this text, and was to spell that part.
+    /// The one of that number, of which the name of the record is the first, is this text, and was to spell that part.
     Misspelled {
-        place: usize,
+        field: usize,
         text: String,
         part: Part,
     },

@@ -19,7 +19,7 @@ use builder_core::TableRings;
 use keybytes::Fault;
 use leased_core::LeasedCore;
 use replay::{Answer, Output, OutputFailed, Session, refuse_table, table_parts};
-use script::{Command, Explanation, InputRecord, Line};
+use script::{Command, Explanation, InputRecord, Line, RaceName};
 use std::alloc::{AllocFailed, Global};
 use std::io::Write;
 
@@ -111,7 +111,7 @@ pub fn answer_on_table<T: TableRings, W: Write + Drop>(
         InputRecord::Good(Line::Table(_table)) => print_bad(
             output,
             number,
-            &Explanation::LateTable,
+            &Explanation::Misplaced(RaceName::Table),
         )?,
         InputRecord::Good(Line::Command(command)) => {
             let answer = answer_command(session, leased, counts, command);

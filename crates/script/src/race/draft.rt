@@ -1,18 +1,22 @@
-ghost use Rattle.std.specs.Prelude.{◌≡◌, [], ◌∷◌, true, false, Some, IfOk, IfErr, IfNone, IfSome, OnOk};
-ghost use Rattle.script.specs.RaceDrafts.{IsMissing, IsNotPut, IsRaceDraft, IsWholeDraft, MayComeNext, with_race_line};
+ghost use Rattle.std.specs.Prelude.{◌≡◌, true, false, Some, IfErr, OnOk};
+ghost use Rattle.script.specs.RaceDrafts.{MayComeNext, with_race_line};
 ghost use Rattle.script.specs.RaceOrder.{name_of_line};
-ghost use Rattle.script.specs.RaceScripts.{choice_of};
 
-use crate::Table;
-use crate::race::cause::RaceCause;
+use crate::cause::Cause;
+use crate::draft::Draft;
+use crate::parse::first;
+use crate::race::fitting::{misfit_behind, misfit_behind_in};
 use crate::race::line::RaceLine;
+use crate::race::parse::named;
 use crate::race::{Build, RaceName, RaceScript, SessionStep};
+use crate::record_error::RecordError;
+use crate::{Explanation, Misfit, Table};
 use keybytes::Cell;
 use run_spool::SpoolChoice;
 use std::alloc::Global;
 use std::marker::Model;
 
-/// What was read of a race script so far.
+/// What was read so far of the script of a race.
 #[derive(Drop)]
 pub struct RaceDraft {
     table: Option<(usize, Table)>,
@@ -47,34 +51,6 @@ impl Model for RaceDraft {
 }
 
 impl RaceDraft {
-    pub fn new(alloc: Global) -> RaceDraft
-        ensures { IsRaceDraft result [] }
-    {
-        RaceDraft {
-            table: None,
-            rows: Vec::new(alloc),
-            choice: None,
-            build: None,
-            steps: Vec::new(alloc),
-            has_begun: false,
-            has_gone: false,
-        }
-    }
-
-    /// Adds the record of that number. It is bad where it may not come behind those that were read.
-    pub fn add(&mut self, number: usize, line: RaceLine) -> Result<(), RaceCause>
-        ensures ok { OnOk result (self.new ≡ with_race_line self.old number line) }
-        ensures accepted { OnOk result (MayComeNext self.old (name_of_line line)) }
-        ensures refused { IfErr result (IsNotPut self.old (name_of_line line)) }
-    {
-        if let Some(name) = line.name()
-            && !self.may_come(name)
-        {
-            return Err(RaceCause::Misplaced(name));
-        }
-        self.put(number, line)
-    }
-
     /// Whether a record of that name may come next.
     fn may_come(&self, name: RaceName) -> bool
         ensures yes { result ≡ true → MayComeNext self.now (Some name) }
@@ -90,10 +66,10 @@ impl RaceDraft {
     }
 
     /// Puts a line that may come next behind the others. The one error is want of memory.
-    fn put(&mut self, number: usize, line: RaceLine) -> Result<(), RaceCause>
+    fn put(&mut self, number: usize, line: RaceLine) -> Result<(), Cause>
         requires { MayComeNext self.old (name_of_line line) }
         ensures ok { OnOk result (self.new ≡ with_race_line self.old number line) }
-        ensures memory { IfErr result (λ cause. cause ≡ RaceCause.NoMemory) }
+        ensures memory { IfErr result (λ cause. cause ≡ Cause.NoMemory) }
     {
         match line {
             RaceLine::PassedOver => return Ok(()),
@@ -111,37 +87,89 @@ impl RaceDraft {
         self.has_begun = true;
         Ok(())
     }
+}
 
-    /// What is missing, if anything is.
-    pub fn missing(&self) -> Option<RaceName>
-        ensures some { IfSome result (IsMissing self.now) }
-        ensures none { IfNone result (IsWholeDraft self.now) }
-    {
+impl Draft for RaceDraft {
+    ghost use Rattle.script.specs.RaceDrafts.{IsRaceDraft};
+    ghost use Rattle.script.specs.RaceScripts.{IsRaceScript, race_grammar};
+    ghost use Rattle.script.specs.declared.race.name.RaceName.{RaceName};
+
+    type Line = RaceLine;
+
+    type Script = RaceScript;
+
+    ghost Name = { RaceName };
+
+    ghost grammar = { race_grammar };
+
+    ghost has = { IsRaceDraft };
+
+    ghost gives = { IsRaceScript };
+
+    fn new(alloc: Global) -> RaceDraft {
+        RaceDraft {
+            table: None,
+            rows: Vec::new(alloc),
+            choice: None,
+            build: None,
+            steps: Vec::new(alloc),
+            has_begun: false,
+            has_gone: false,
+        }
+    }
+
+    fn line(alloc: Global, fields: &[&str]) -> Result<RaceLine, RecordError> {
+        let (first, parts) = first(fields)?;
+        if first.starts_with('#') {
+            return Ok(RaceLine::PassedOver);
+        }
+        match RaceName::read(first) {
+            Some(name) => named(alloc, name, parts),
+            None => Err(RecordError::Misspelled),
+        }
+    }
+
+    fn misfit(alloc: Global, fields: &[&str]) -> Result<Option<Misfit>, RecordError> {
+        let Some((first, parts)) = fields.split_first() else {
+            let text = String::new(alloc);
+            return Ok(Some(Misfit::UnknownInRace { text }));
+        };
+        if first.starts_with('#') {
+            return Ok(None);
+        }
+        match RaceName::read(first) {
+            Some(RaceName::In) => misfit_behind_in(alloc, parts),
+            Some(name) => misfit_behind(alloc, name, parts),
+            None => {
+                let text = String::from_str(alloc, first)?;
+                Ok(Some(Misfit::UnknownInRace { text }))
+            }
+        }
+    }
+
+    fn add(&mut self, number: usize, line: RaceLine) -> Result<(), Cause> {
+        if let Some(name) = line.name()
+            && !self.may_come(name)
+        {
+            return Err(Cause::Misplaced(name));
+        }
+        self.put(number, line)
+    }
+
+    fn missing(&self) -> Option<Explanation> {
         if self.table.is_none() {
-            return Some(RaceName::Table);
+            return Some(Explanation::Missing(RaceName::Table));
         }
         if self.build.is_none() {
-            return Some(RaceName::Build);
+            return Some(Explanation::Missing(RaceName::Build));
         }
         if !self.has_gone {
-            return Some(RaceName::Go);
+            return Some(Explanation::Missing(RaceName::Go));
         }
         None
     }
 
-    /// The script, if nothing is missing.
-    pub fn finish(self) -> Result<RaceScript, RaceName>
-        ensures table { IfOk result (λ script. self.tables ≡ (script.table_number, script.table) ∷ []) }
-        ensures rows { IfOk result (λ script. self.rows ≡ script.rows.items) }
-        ensures choice { IfOk result (λ script. choice_of self.choices ≡ script.choice) }
-        ensures build { IfOk result (λ script. self.builds ≡ script.build ∷ []) }
-        ensures steps { IfOk result (λ script. self.steps ≡ script.steps.items) }
-        ensures gone { OnOk result (self.gone ≡ true) }
-        ensures missing { IfErr result (IsMissing self) }
-    {
-        if let Some(name) = self.missing() {
-            return Err(name);
-        }
+    fn finish(self) -> RaceScript {
         let RaceDraft {
             table,
             rows,
@@ -152,14 +180,14 @@ impl RaceDraft {
             has_gone: _,
         } = self;
         match (table, build) {
-            (Some((table_number, table)), Some(build)) => Ok(RaceScript {
+            (Some((table_number, table)), Some(build)) => RaceScript {
                 table_number,
                 table,
                 rows,
                 choice: choice.unwrap_or(SpoolChoice::Plain),
                 build,
                 steps,
-            }),
+            },
             _ => unreachable!(),
         }
     }

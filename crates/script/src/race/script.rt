@@ -1,19 +1,11 @@
 ghost use Rattle.std.specs.Prelude.{◌≡◌, ℕ, IfOk, IfErr, IfSome, OnOk};
 ghost use Rattle.std.specs.Io.KnownBytes.{IsAtEnd};
-ghost use Rattle.csv.specs.Records.{fields_of};
-ghost use Rattle.script.specs.RaceExplanations.{ExplainsRace, ExplainsRaceStop};
-ghost use Rattle.script.specs.RaceScripts.{AreGoodOfRace, IsFirstBadOfRace, SpellsRaceScript};
-ghost use Rattle.script.specs.RaceShapes.{HasRaceShape};
-ghost use Rattle.script.specs.declared.race.cause.RaceCause.TheVariants as race_cause;
+ghost use Rattle.script.specs.Explanations.{Explains};
+ghost use Rattle.script.specs.RaceScripts.{AreGoodOfRace, IsFirstBadOfRace, SpellsRaceScript, race_grammar};
 
-use crate::race::cause::RaceCause;
 use crate::race::draft::RaceDraft;
-use crate::race::fitting::misfit;
-use crate::race::reading::read_lines;
-use crate::race::stop::RaceStop;
-use crate::race::{Build, RaceCheckError, RaceExplanation, SessionStep};
-use crate::{ScriptError, Table, read_text};
-use csv::StringRecord;
+use crate::race::{Build, SessionStep};
+use crate::{CheckError, ScriptError, Table, read_text, reading};
 use keybytes::Cell;
 use run_spool::SpoolChoice;
 use std::alloc::Global;
@@ -52,55 +44,14 @@ impl RaceScript {
         ensures bad { (number : ℕ) → result ≡ Err (ScriptError.Bad number) → IsFirstBadOfRace text.now number }
         ensures no_other { (number other : ℕ) → result ≡ Err (ScriptError.Bad number) → IsFirstBadOfRace text.now other → other ≡ number }
     {
-        let mut draft = RaceDraft::new(alloc);
-        let mut record = StringRecord::new(alloc);
-        match read_lines(alloc, text, &mut draft, &mut record) {
-            Ok(number) => match draft.finish() {
-                Ok(script) => Ok(script),
-                Err(_) => Err(ScriptError::Bad(number)),
-            },
-            Err(stop) => Err(stop.cause.at(stop.number)),
-        }
+        reading::parse::<RaceDraft>(alloc, text)
     }
 
     /// Looks at all records of a script, and answers how many there are, or what is wrong with the first bad one.
-    pub fn check(alloc: Global, text: &[u8]) -> Result<usize, RaceCheckError>
+    pub fn check(alloc: Global, text: &[u8]) -> Result<usize, CheckError>
         ensures good { IfOk result (AreGoodOfRace text.now) }
-        ensures bad { IfErr result (ExplainsRace text.now) }
+        ensures bad { IfErr result (Explains race_grammar text.now) }
     {
-        let mut draft = RaceDraft::new(alloc);
-        let mut record = StringRecord::new(alloc);
-        match read_lines(alloc, text, &mut draft, &mut record) {
-            Ok(number) => match draft.missing() {
-                None => Ok(number - 1),
-                Some(name) => Err(RaceCheckError::Bad {
-                    number,
-                    explanation: RaceExplanation::Missing(name),
-                }),
-            },
-            Err(stop) => Err(explain(alloc, stop, &record)),
-        }
-    }
-}
-
-/// What is wrong with the record at which the reading stopped, whose fields are in the record where they could be read.
-fn explain(alloc: Global, stop: RaceStop, record: &StringRecord) -> RaceCheckError
-    requires { stop.cause ≡ race_cause.Misspelled → ¬ (HasRaceShape (fields_of «record».now)) }
-    ensures { ExplainsRaceStop stop (fields_of «record».now) result }
-{
-    let explanation = match stop.cause {
-        RaceCause::NotText => RaceExplanation::NotText,
-        RaceCause::Misplaced(name) => RaceExplanation::Misplaced(name),
-        RaceCause::Misspelled => match misfit(alloc, record) {
-            Ok(Some(misfit)) => RaceExplanation::Misfit(misfit),
-            Ok(None) => unreachable!(),
-            Err(_) => return RaceCheckError::NoMemory,
-        },
-        RaceCause::NoMemory => return RaceCheckError::NoMemory,
-        RaceCause::CannotRead => return RaceCheckError::CannotRead,
-    };
-    RaceCheckError::Bad {
-        number: stop.number,
-        explanation,
+        reading::check::<RaceDraft>(alloc, text)
     }
 }

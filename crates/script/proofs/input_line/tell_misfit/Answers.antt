@@ -1,7 +1,7 @@
 use Rattle.std.proofs.Common.{arith}
 use Rattle.std.specs.Prelude.{string_bytes}
 use Rattle.csv.specs.Records.{fields_of}
-use Rattle.script.specs.Explanations.{TellsMisfit}
+use Rattle.script.specs.Misfits.{TellsMisfit}
 use Rattle.script.specs.Shapes.{HasShape}
 use Rattle.script.specs.declared.misfit.Misfit.TheVariants.{UnknownCommand}
 use Rattle.script.proofs.Words.{of_found, word_alone}

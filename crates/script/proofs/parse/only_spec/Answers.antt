@@ -7,4 +7,4 @@ returns-in_err-only-clause-refused c = λ _. c.in_err-only.ensures.refused part.
 pub returns-clause-refused : goal.returns-clause-refused
 returns-clause-refused c = λ bad fits.
     let here = rw c.in_ok-only.ensures.ok at fits in
-    c.spec.ensures.refused bad here.0.0 here.0.1
+    c.spelled.ensures.refused bad here.0.0 here.0.1

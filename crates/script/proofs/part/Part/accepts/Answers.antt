@@ -14,7 +14,7 @@ returns-in-Rid-clause-misspelled c = rw c.in-Rid.is (λ bad spelled.
     let none = rw (c.is_good.ensures.bad bad) at c.rid.ensures.refused in none.1 spelled.0 spelled.1)
 
 pub returns-in-Spec-clause-spelled : goal.returns-in-Spec-clause-spelled
-returns-in-Spec-clause-spelled c = λ good. rw c.in-Spec.is (at_ok _ c.spec.result (c.is_good-in-Spec.ensures.good good) c.spec.ensures.ok)
+returns-in-Spec-clause-spelled c = λ good. rw c.in-Spec.is (at_ok _ c.spelled-in-Spec.result (c.is_good-in-Spec.ensures.good good) c.spelled-in-Spec.ensures.ok)
 
 pub returns-in-Spec-clause-misspelled : goal.returns-in-Spec-clause-misspelled
-returns-in-Spec-clause-misspelled c = rw c.in-Spec.is (λ bad spelled. c.spec.ensures.refused (c.is_good-in-Spec.ensures.bad bad) spelled.0 spelled.1)
+returns-in-Spec-clause-misspelled c = rw c.in-Spec.is (λ bad spelled. c.spelled-in-Spec.ensures.refused (c.is_good-in-Spec.ensures.bad bad) spelled.0 spelled.1)

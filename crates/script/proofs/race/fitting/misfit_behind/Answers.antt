@@ -1,6 +1,6 @@
 use Rattle.std.proofs.Common.{◌≡◌, ℕ, List, refl}
-use Rattle.script.specs.Explanations.{TellsUnfit}
-use Rattle.script.specs.RaceExplanations.{TellsBehind}
+use Rattle.script.specs.Misfits.{TellsUnfit}
+use Rattle.script.specs.RaceMisfits.{TellsBehind}
 use Rattle.script.specs.RaceShapes.{race_parts, race_repeated}
 use Rattle.script.specs.declared.race.name.RaceName.{RaceName}
 use Rattle.script.specs.declared.race.name.RaceName.TheVariants.{Table, Row, Spools, Build, Go, In}
@@ -8,7 +8,7 @@ use Rattle.script.specs.declared.unfit.Unfit.{Unfit}
 use Rattle.script.proofs.race.fitting.misfit_behind.Goals as goal
 
 -- behind a name other than `in`, fields are told from its parts
-behind : (name : RaceName) (fields : List (List ℕ)) (unfit : Unfit) → (name ≡ In → ⊥) → TellsUnfit (race_parts name) (race_repeated name) fields unfit
+behind : (name : RaceName) (fields : List (List ℕ)) (unfit : Unfit) → (name ≡ In → ⊥) → TellsUnfit (race_parts name) (race_repeated name) 2 fields unfit
     → TellsBehind name fields unfit
 behind Table fields unfit other tells = tells
 behind Row fields unfit other tells = tells
