@@ -1,6 +1,7 @@
 //! Small runs of `sfbench` with what they print, and the words that it refuses.
 
-use bench_runs::{Failure, Options, peak_in, printed, read, run};
+use crate::printed::text;
+use bench::{Failure, Figures, Options, by_threads, by_turns, peak_in, print, read};
 use std::alloc::Global;
 use std::rt::Runtime;
 use std::sync::Wait;
@@ -84,7 +85,7 @@ static RUNS: [(&[&str], Measured); 21] = [
     ),
     (
         &["--rows", "1234", "--columns", "int,text:5"],
-        Measured::Table("1,234 rows of int,text:5, indexes 1, workers 1, writes 0, seed 1992"),
+        Measured::Table("1234 rows of int,text:5, indexes 1, workers 1, writes 0, seed 1992"),
     ),
     (&["fast"], Measured::Nothing),
     (&["--rows", "0"], Measured::Nothing),
@@ -157,9 +158,23 @@ fn begin_with(records: &str, fields: &[&str]) -> bool {
     fields.next().is_none()
 }
 
+/// Whether that is what is printed of the figures.
+fn is_printed(
+    alloc: Global,
+    options: &Options,
+    figures: &Figures,
+    measured: Measured,
+) -> Result<bool, Fail> {
+    let mut out = Vec::new(alloc);
+    match print(&mut out, alloc, options, figures) {
+        Ok(()) => Ok(measured.is_printed(text(out.as_slice()))),
+        Err(failure) => Err(Fail::new(failure)),
+    }
+}
+
 fn is_run(rt: &HostRuntime, options: &Options, measured: Measured) -> Result<bool, Fail> {
-    match run(rt, options) {
-        Ok(figures) => Ok(measured.is_printed(printed(rt.alloc(), options, &figures)?.as_str())),
+    match by_turns(rt, options) {
+        Ok(figures) => is_printed(rt.alloc(), options, &figures, measured),
         Err(failure) => Ok(matches!((failure, measured), (Failure::Shared(0), Measured::Shared))),
     }
 }
@@ -200,11 +215,8 @@ where
     R: Runtime + Threads + Wait + Sync,
 {
     let options = read(alloc, BESIDE)?;
-    match bench_threads::run(rt, alloc, &options) {
-        Ok(figures) => {
-            let text = bench_threads::printed(alloc, &options, &figures)?;
-            Ok(STAGES.is_printed(text.as_str()))
-        }
+    match by_threads(rt, alloc, &options) {
+        Ok(figures) => is_printed(alloc, &options, &figures, STAGES),
         Err(failure) => Err(Fail::new(failure)),
     }
 }

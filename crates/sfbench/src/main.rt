@@ -1,15 +1,11 @@
 //! The program `sfbench`: measures how fast indexes are built on a table of random rows.
 //!
-//! The library [`bench_runs`] reads the words that the program is given. It does what they ask for, or where they ask for threads
-//! [`bench_threads`] does. `main` only hands the words and the standard streams in.
+//! The library [`bench`] reads the words that the program is given, does what they ask for, and prints the figures. `main` only hands
+//! the words and the standard streams in.
 #![tactic(auto)]
 
-use bench_runs::{Failure, Options};
-use std::alloc::Global;
+use bench::{Failure, Figures, Options};
 use std::process::ExitCode;
-use std::rt::Runtime;
-use std::sync::Wait;
-use std::thread::Threads;
 use std::{env, io};
 
 /// The exit status of a run that gave its figures.
@@ -20,8 +16,14 @@ const FAILED: u8 = 2;
 
 fn main(rt: HostRuntime) -> ExitCode {
     let status = match options(&rt) {
-        Ok(options) if options.threads => print(&rt, by_threads(&rt, rt.alloc(), &options)),
-        Ok(options) => print(&rt, by_turns(&rt, &options)),
+        Ok(options) => {
+            let told = if options.threads {
+                bench::by_threads(&rt, rt.alloc(), &options)
+            } else {
+                bench::by_turns(&rt, &options)
+            };
+            print(&rt, &options, told)
+        }
         Err(status) => status,
     };
     ExitCode::from(status)
@@ -36,7 +38,7 @@ fn options(rt: &HostRuntime) -> Result<Options, u8> {
             return Err(FAILED);
         }
     };
-    match bench_runs::read(rt.alloc(), words.as_slice()) {
+    match bench::read(rt.alloc(), words.as_slice()) {
         Ok(options) => Ok(options),
         Err(error) => Err(refuse(rt, &error)),
     }
@@ -56,38 +58,17 @@ fn refuse(rt: &HostRuntime, error: &clap::Error) -> u8 {
     }
 }
 
-/// What a run with threads prints.
-fn by_threads<R>(rt: &R, alloc: Global, options: &Options) -> Result<String, Failure>
-where
-    R: Runtime + Threads + Wait + Sync,
-{
-    let figures = bench_threads::run(rt, alloc, options)?;
-    match bench_threads::printed(alloc, options, &figures) {
-        Ok(text) => Ok(text),
-        Err(_) => Err(Failure::Memory),
-    }
-}
-
-/// What a run in one thread prints.
-fn by_turns(rt: &HostRuntime, options: &Options) -> Result<String, Failure> {
-    let figures = bench_runs::run(rt, options)?;
-    match bench_runs::printed(rt.alloc(), options, &figures) {
-        Ok(text) => Ok(text),
-        Err(_) => Err(Failure::Memory),
-    }
-}
-
 /// Prints what a run told, or why it told nothing, and answers the exit status.
-fn print(rt: &HostRuntime, told: Result<String, Failure>) -> u8 {
+fn print(rt: &HostRuntime, options: &Options, told: Result<Figures, Failure>) -> u8 {
     let printed = match told {
-        Ok(text) => print!(rt; "{text}"),
-        Err(failure) => {
-            let _ = eprintln!(rt; "sfbench: {failure}");
-            return FAILED;
-        }
+        Ok(figures) => bench::print(rt.stdout(), rt.alloc(), options, &figures),
+        Err(failure) => Err(failure),
     };
     match printed {
         Ok(()) => DONE,
-        Err(_) => FAILED,
+        Err(failure) => {
+            let _ = eprintln!(rt; "sfbench: {failure}");
+            FAILED
+        }
     }
 }

@@ -1,0 +1,5 @@
+pub mod Columns
+pub mod Dealt
+pub mod Phases
+pub mod SpoolPages
+pub mod Verdicts

@@ -1,5 +1,0 @@
-use Rattle.bench_runs.proofs.running.run.Given as goal
-
--- the table is named by its own rings
-abbrev pub ghosts-run_on : goal.ghosts-run_on
-ghosts-run_on a = record { pages = a.parts.pages; sides = a.parts.sides }

@@ -1,4 +1,0 @@
-pub mod Columns
-pub mod Dealt
-pub mod Phases
-pub mod SpoolPages
