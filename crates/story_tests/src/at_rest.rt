@@ -1,54 +1,46 @@
 //! The pairs of a table at rest.
 
-use crate::listing::number_of;
-use crate::rows::{On, PAIRED, Rows, heap, spec};
-use builder_core::{Pair, at_rest};
+use crate::expected::is_printed;
+use crate::listing::listed;
+use crate::rows::{Rows, SEVEN, asked};
+use builder_core::{Plan, at_rest};
 use heap_table::Heap;
-use keybytes::{Fault, KeySpec, Rid};
+use keybytes::Fault;
 use std::alloc::Global;
 
 const THREE: Rows = Rows {
     count: 3,
     distinct: 2,
-    ..PAIRED
+    ..SEVEN
 };
 
-const ON: On = On {
-    column: 0,
-    is_unique: false,
-};
+const SCRIPT: &str = "table,2,int,int
+start,1,4,even:1,n:0
+";
 
 /// The keys 0, 1 and 0 again, by key and then by place.
-const PAIRS: [(i64, Rid); 3] = [
-    (0, Rid { page: 0, slot: 0 }),
-    (0, Rid { page: 1, slot: 0 }),
-    (1, Rid { page: 0, slot: 1 }),
-];
-
-fn are_told(pairs: &[Pair]) -> bool {
-    for number in 0..PAIRS.len() {
-        let (key, rid) = PAIRS[number];
-        match pairs.get(number) {
-            Some(pair) if number_of(&pair.key) == Some(key) && pair.rid == rid => {}
-            _ => return false,
-        }
-    }
-    pairs.len() == PAIRS.len()
-}
+const PAIRS: &str = "1,ok,3
+1,pair,0,0.0
+1,pair,0,1.0
+1,pair,1,0.1
+";
 
 /// Whether the pairs of the table are those of the three rows, for two visits.
-fn read(heap: &mut Heap, spec: &KeySpec) -> Result<bool, Fault> {
+fn are_read(alloc: Global, heap: &mut Heap, plan: &Plan) -> Result<bool, Fault> {
+    let [spec] = plan.specs.as_slice() else {
+        return Err(Fault::BadCount);
+    };
     if !spec.is_of(heap.schema()) {
         return Err(Fault::BadColumn);
     }
     let before = heap.visits();
-    let are_told = are_told(&at_rest(heap, spec)?);
-    Ok(are_told && heap.visits() == before.saturating_add(2))
+    let pairs = listed(alloc, &at_rest(heap, spec)?)?;
+    Ok(heap.visits() == before.saturating_add(2) && is_printed(1, &pairs, PAIRS.as_bytes()))
 }
 
 fn read_three_rows(alloc: Global) -> Result<bool, Fault> {
-    let mut heap = heap(alloc, THREE)?;
-    read(&mut heap, &spec(alloc, ON)?)
+    let (mut heap, plan, _) = asked(alloc, SCRIPT, &THREE, 1)?;
+    are_read(alloc, &mut heap, &plan)
 }
 
 #[test]

@@ -1,13 +1,16 @@
 //! The caller that docs/CALLING.md shows.
 ghost use Rattle.std.specs.Prelude.{◌≡◌};
 
-use crate::rows::{PAIRED, row, shared_table};
+use crate::meetings::{Meeting, WHOLE, shared};
+use crate::rows::row;
 use crew::{Opened, Receipt, Session, TableParts};
 use keybytes::{Fault, Row};
 use std::alloc::Global;
 use std::marker::Brand;
 use std::sync::Wait;
 use std::thread::{Threads, join};
+
+static SEVEN_ROWS: Meeting = WHOLE;
 
 /// Inserts a row in a transaction of its own.
 fn insert<T: Opened, R: Wait>(
@@ -48,7 +51,8 @@ fn missing<T: Opened + Send + Sync, R: Threads + Wait + Sync>(
 
 fn missing_of_two<R: Threads + Wait + Sync>(rt: &R, alloc: Global) -> Result<usize, Fault> {
     let rows = (row(alloc, 5, 0)?, row(alloc, 3, 0)?);
-    missing::<Brand, R>(rt, alloc, shared_table(alloc, PAIRED)?, rows)
+    let (parts, _build) = shared(alloc, &SEVEN_ROWS)?;
+    missing::<Brand, R>(rt, alloc, parts, rows)
 }
 
 #[test]

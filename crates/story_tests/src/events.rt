@@ -9,11 +9,7 @@ use std::alloc::Global;
 /// more.
 pub fn txn_of(label: &Label, beside: u64) -> u64 {
     let txn: u64 = label.as_str().parse().unwrap_or(0);
-    if txn >= beside {
-        txn.saturating_add(1)
-    } else {
-        txn
-    }
+    txn.saturating_add(u64::from(txn >= beside))
 }
 
 pub fn row(alloc: Global, cells: &[Cell]) -> Result<Row, Fault> {
@@ -29,26 +25,19 @@ pub fn key_spec(alloc: Global, schema: &Schema, spec: &Spec) -> Result<KeySpec, 
     KeySpec::new(alloc, schema, spec.columns.to_vec(alloc)?, spec.unique)
 }
 
-fn key_specs(alloc: Global, schema: &Schema, specs: &[Spec]) -> Result<Vec<KeySpec>, Fault> {
-    let mut made = Vec::with_capacity(alloc, specs.len())?;
-    for spec in specs {
-        made.push(key_spec(alloc, schema, spec)?)?;
+pub fn plan(alloc: Global, schema: &Schema, start: &Start) -> Result<Plan, Fault> {
+    let mut specs = Vec::with_capacity(alloc, start.specs.len())?;
+    for spec in &start.specs {
+        specs.push(key_spec(alloc, schema, spec)?)?;
     }
-    Ok(made)
-}
-
-fn dealing(alloc: Global, dealing: &Dealing) -> Result<Dealing, Fault> {
-    match dealing {
-        Dealing::Even(ranges) => Ok(Dealing::Even(*ranges)),
-        Dealing::Ends(ends) => Ok(Dealing::Ends(ends.to_vec(alloc)?)),
-    }
-}
-
-fn plan(alloc: Global, schema: &Schema, start: &Start) -> Result<Plan, Fault> {
+    let dealing = match &start.dealing {
+        Dealing::Even(ranges) => Dealing::Even(*ranges),
+        Dealing::Ends(ends) => Dealing::Ends(ends.to_vec(alloc)?),
+    };
     Ok(Plan {
-        specs: key_specs(alloc, schema, &start.specs)?,
+        specs,
         workers: start.workers,
-        dealing: dealing(alloc, &start.dealing)?,
+        dealing,
         tries: 1,
         keep_pairs: false,
     })
@@ -60,8 +49,8 @@ pub fn event(
     schema: &Schema,
     command: &Command,
     beside: u64,
-) -> Result<Option<Event>, Fault> {
-    Ok(Some(match command {
+) -> Result<Event, Fault> {
+    Ok(match command {
         Command::Begin { .. } => Event::Begin,
         Command::Insert { label, cells } => Event::Insert {
             txn: txn_of(label, beside),
@@ -103,6 +92,6 @@ pub fn event(
         Command::Fence => Event::Fence,
         Command::Switch => Event::Switch,
         Command::Abandon => Event::Abandon,
-        _ => return Ok(None),
-    }))
+        _ => return Err(Fault::BadScript(0)),
+    })
 }

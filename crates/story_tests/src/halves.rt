@@ -2,26 +2,22 @@
 ghost use Rattle.std.specs.Prelude.{◌≡◌};
 
 use crate::lent::lent_of;
-use crate::list_spool::{Free, ListSpool};
-use crate::made::list_spool;
-use crate::rows::{On, PAIRED, Rows, heap, plan as plan_of, rest_of};
-use builder_core::{
-    Building, Dealing, Ends, Event, Live, Pair, Parts, Plan, Reply, TableRings, run_events,
-};
+use crate::list_spool::Lists;
+use crate::made::{Made, list_spool};
+use crate::place::NO_FAULT;
+use crate::rows::{Rows, SEVEN, asked, has_pairs, rest_of};
+use crate::spoiled::tells;
+use crate::stand::Stand;
+use crate::story::Stock;
+use builder_core::{Building, Dealing, Ends, Live, Parts, Plan, TableRings};
 use heap_table::PageImage;
-use keybytes::Fault;
+use keybytes::{Fault, KeySpec, copied_specs};
 use std::alloc::Global;
 use std::marker::Brand;
 
-const ON: On = On {
-    column: 0,
-    is_unique: false,
-};
-
-const THREE: Rows = Rows { count: 3, ..PAIRED };
+const THREE: Rows = Rows { count: 3, ..SEVEN };
 
 /// What is done with the table, or with what stands beside it.
-#[derive(Drop)]
 pub enum Half {
     Start,
     /// Of no index.
@@ -73,8 +69,24 @@ static APART: [(Half, Told); 18] = [
     (Half::Switch, Err(Fault::NoBuild)),
 ];
 
-/// What the events of a build of the same table to its end are answered.
-const BUILT: [Told; 6] = [Ok(2), Ok(0), Ok(1), Ok(2), Ok(3), Ok(5)];
+/// A build of the same table to its end.
+const BUILD: &str = "table,2,int,int
+start,1,0,even:1,n:0
+scan,0,0
+scan,0,0
+seal,0
+load,0
+switch
+";
+
+const BUILT: &str = "2,ok,2
+3,ok,0
+4,ok,1
+5,ok,2
+6,ok,3
+7,ok,5,ready:0
+7,pages,0
+";
 
 /// Once the workers are back. The changes meanwhile are four entries, of which one is left to the switch.
 pub static BACK: [(Half, Told); 12] = [
@@ -92,6 +104,14 @@ pub static BACK: [(Half, Told); 12] = [
     (Half::Follow, Ok(7)),
 ];
 
+/// The plan of a build, one without an index, and one over no range.
+#[derive(Drop)]
+pub struct Plans {
+    pub plan: Plan,
+    none: Plan,
+    nowhere: Plan,
+}
+
 pub fn scanned<T: TableRings>(
     live: &mut Live<T>,
     range: usize,
@@ -106,27 +126,14 @@ pub fn scanned<T: TableRings>(
 
 pub fn started<T: TableRings>(
     live: &mut Live<T>,
-    building: &mut Building<ListSpool<Free>, T>,
+    building: &mut Building<Lists, T>,
     plan: &Plan,
 ) -> Told {
     Ok(live.start(plan, building)? as usize)
 }
 
-fn nowhere(alloc: Global) -> Result<Plan, Fault> {
-    let plan = plan_of(alloc, &[ON], 1, 1, 1)?;
-    Ok(Plan {
-        dealing: Dealing::Ends(Vec::new(alloc)),
-        ..plan
-    })
-}
-
-fn exchanged<T: TableRings>(alloc: Global, building: &mut Building<ListSpool<Free>, T>) -> Told {
-    let _others = building.exchange(vec![in alloc; list_spool(alloc)?]?);
-    Ok(0)
-}
-
 /// Puts the pairs of the index in order, where that can be done.
-fn loaded<T: TableRings>(alloc: Global, building: &mut Building<ListSpool<Free>, T>) -> Told {
+fn loaded<T: TableRings>(alloc: Global, building: &mut Building<Lists, T>) -> Told {
     let Some(work) = building.work() else {
         return Err(Fault::NoBuild);
     };
@@ -138,7 +145,7 @@ fn loaded<T: TableRings>(alloc: Global, building: &mut Building<ListSpool<Free>,
 }
 
 /// Applies entries without the table, where that can be done.
-fn applied_alone<T: TableRings>(building: &mut Building<ListSpool<Free>, T>, most: usize) -> Told {
+fn applied_alone<T: TableRings>(building: &mut Building<Lists, T>, most: usize) -> Told {
     let seen = building.look_for_entries(0);
     let Some(work) = building.work() else {
         return Err(Fault::NoBuild);
@@ -150,72 +157,64 @@ fn applied_alone<T: TableRings>(building: &mut Building<ListSpool<Free>, T>, mos
     building.apply(0, most.min(seen))
 }
 
-fn fed<T: TableRings>(
+/// Feeds entries, or applies some, behind another end of the scans.
+fn moved<T: TableRings>(
     live: &mut Live<T>,
-    building: &mut Building<ListSpool<Free>, T>,
+    building: &mut Building<Lists, T>,
     most: usize,
+    is_fed: bool,
 ) -> Told {
     live.end_scan(building)?;
-    live.feed_beside(0, most, building)
-}
-
-fn applied<T: TableRings>(
-    live: &mut Live<T>,
-    building: &mut Building<ListSpool<Free>, T>,
-    most: usize,
-) -> Told {
-    live.end_scan(building)?;
+    if is_fed {
+        return live.feed_beside(0, most, building);
+    }
     live.check_apply(0, building)?;
     live.apply(0, most, building)
 }
 
-fn has_pairs<T: TableRings>(live: &Live<T>, pairs: &[Pair]) -> bool {
-    match live.ready().get(0) {
-        Some(index) => index.tree().iter().eq(pairs),
-        None => false,
-    }
-}
-
-fn followed<T: TableRings>(alloc: Global, live: &mut Live<T>) -> Told {
-    let pairs = rest_of(alloc, live, ON)?;
-    if has_pairs(live, &pairs) {
+fn followed<T: TableRings>(live: &mut Live<T>, spec: Option<&KeySpec>) -> Told {
+    let pairs = rest_of(live, spec.ok_or(Fault::BadColumn)?)?;
+    if has_pairs(live, 0, &pairs) {
         Ok(pairs.len())
     } else {
         Err(Fault::BadCount)
     }
 }
 
+/// What is answered where no number is told.
+fn done(told: Result<(), Fault>) -> Told {
+    told?;
+    Ok(0)
+}
+
 fn does<T: TableRings>(
     alloc: Global,
     live: &mut Live<T>,
-    building: &mut Building<ListSpool<Free>, T>,
-    plan: &Plan,
+    building: &mut Building<Lists, T>,
+    plans: &Plans,
     half: &Half,
 ) -> Told {
     match half {
-        Half::Start => started(live, building, plan),
-        Half::StartNone => started(live, building, &plan_of(alloc, &[], 1, 1, 1)?),
-        Half::StartNowhere => started(live, building, &nowhere(alloc)?),
+        Half::Start => started(live, building, &plans.plan),
+        Half::StartNone => started(live, building, &plans.none),
+        Half::StartNowhere => started(live, building, &plans.nowhere),
         Half::Scan => scanned(live, 0, 0, PageImage::new(alloc)?),
         Half::Switch => Ok(live.switch_in(building)?.number),
-        Half::Abandon => {
-            live.abandon()?;
-            Ok(0)
-        }
+        Half::Abandon => done(live.abandon()),
         Half::GiveUp => {
             building.give_up();
             Ok(0)
         }
-        Half::Exchange => exchanged(alloc, building),
-        Half::EndScan => {
-            live.end_scan(building)?;
+        Half::Exchange => {
+            let _others = building.exchange(vec![in alloc; list_spool(alloc)?]?);
             Ok(0)
         }
+        Half::EndScan => done(live.end_scan(building)),
         Half::Load => loaded(alloc, building),
-        Half::Feed(most) => fed(live, building, *most),
-        Half::Apply(most) => applied(live, building, *most),
+        Half::Feed(most) => moved(live, building, *most, true),
+        Half::Apply(most) => moved(live, building, *most, false),
         Half::ApplyAlone(most) => applied_alone(building, *most),
-        Half::Follow => followed(alloc, live),
+        Half::Follow => followed(live, plans.plan.specs.first()),
     }
 }
 
@@ -223,40 +222,17 @@ fn does<T: TableRings>(
 pub fn first_other<T: TableRings>(
     alloc: Global,
     live: &mut Live<T>,
-    building: &mut Building<ListSpool<Free>, T>,
-    plan: &Plan,
+    building: &mut Building<Lists, T>,
+    plans: &Plans,
     cases: &[(Half, Told)],
 ) -> Option<usize> {
     for number in 0..cases.len() {
         let (half, told) = &cases[number];
-        if does(alloc, live, building, plan, half) != *told {
+        if does(alloc, live, building, plans, half) != *told {
             return Some(number);
         }
     }
     None
-}
-
-fn number_in(reply: &Reply) -> Told {
-    match reply {
-        Reply::Started { pages } => Ok(*pages as usize),
-        Reply::Scanned { page } => Ok(*page as usize),
-        Reply::Sealed { images: number }
-        | Reply::Loaded { pairs: number }
-        | Reply::Switched { number, .. } => Ok(*number),
-        Reply::Refused { fault } => Err(*fault),
-        _ => Err(Fault::BadCount),
-    }
-}
-
-/// Whether the replies are those to a build.
-fn are_built(replies: Result<Vec<Reply>, Fault>) -> Result<bool, Fault> {
-    let replies = replies?;
-    for number in 0..BUILT.len() {
-        if replies.get(number).map(number_in) != Some(BUILT[number]) {
-            return Ok(false);
-        }
-    }
-    Ok(replies.len() == BUILT.len())
 }
 
 /// The number of the first case that is answered otherwise, or of none where a build behind them is.
@@ -264,85 +240,86 @@ fn apart_of<T: TableRings>(
     alloc: Global,
     live: Live<T>,
     ends: Ends<T>,
-    spools: Vec<ListSpool<Free>>,
-    plan: &Plan,
-    events: &[Event],
-) -> Result<Option<usize>, Fault> {
+    spools: Vec<Lists>,
+    plans: &Plans,
+    stock: Stock,
+) -> Option<usize> {
     let mut live = live;
     let mut building = Building::new(ends, spools);
-    let other = first_other(alloc, &mut live, &mut building, plan, &APART);
+    let other = first_other(alloc, &mut live, &mut building, plans, &APART);
     let (ends, spools) = building.into_parts();
-    let (_, _, _, replies) = run_events(alloc, live, ends, spools, events);
-    if are_built(replies)? {
-        return Ok(other);
+    let mut stand = Stand::new(alloc, live, ends, spools, stock, NO_FAULT);
+    let is_built = tells(&mut stand, BUILD, BUILT);
+    if stand.end() && is_built {
+        other
+    } else {
+        Some(APART.len())
     }
-    Ok(Some(APART.len()))
 }
 
 fn other_of<T: TableRings>(
     alloc: Global,
     parts: Parts,
-    spools: Vec<ListSpool<Free>>,
-    plan: &Plan,
-    events: &[Event],
-) -> Result<Option<usize>, Fault>
+    spools: Vec<Lists>,
+    plans: &Plans,
+    stock: Stock,
+) -> Option<usize>
     requires pages { parts.pages ≡ T.pages }
     requires sides { parts.sides ≡ T.sides }
 {
     let (live, ends) = parts.open::<T>();
-    if events.is_empty() {
-        return Ok(lent_of(alloc, live, ends, spools, plan));
+    if stock.count == 1 {
+        apart_of(alloc, live, ends, spools, plans, stock)
+    } else {
+        lent_of(alloc, live, ends, spools, plans)
     }
-    apart_of(alloc, live, ends, spools, plan, events)
 }
 
-fn other_beside(
-    alloc: Global,
-    rows: Rows,
-    spools: Vec<ListSpool<Free>>,
-    plan: &Plan,
-    events: &[Event],
-) -> Result<Option<usize>, Fault> {
-    match Parts::new(alloc, heap(alloc, rows)?) {
-        Ok(parts) => other_of::<Brand>(alloc, parts, spools, plan, events),
+/// Over no range.
+fn nowhere(alloc: Global, specs: Vec<KeySpec>) -> Plan {
+    Plan {
+        specs,
+        workers: 1,
+        dealing: Dealing::Ends(Vec::new(alloc)),
+        tries: 1,
+        keep_pairs: false,
+    }
+}
+
+/// What is otherwise in a build of a script's table over lists: by one worker each half by itself, by two workers while
+/// these are lent.
+fn other_in(alloc: Global, records: &str, rows: &Rows) -> Result<Option<usize>, Fault> {
+    let (heap, plan, mut stock) = asked(alloc, records, rows, 1)?;
+    let specs = copied_specs(alloc, &plan.specs)?;
+    let plans = Plans {
+        plan,
+        none: nowhere(alloc, Vec::new(alloc)),
+        nowhere: nowhere(alloc, specs),
+    };
+    let spools = <Lists as Made>::made(alloc, &mut stock, &NO_FAULT)?;
+    match Parts::new(alloc, heap) {
+        Ok(parts) => Ok(other_of::<Brand>(alloc, parts, spools, &plans, stock)),
         Err((_, fault)) => Err(fault),
     }
 }
 
-fn apart(alloc: Global) -> Result<Option<usize>, Fault> {
-    let (range, worker) = (0, 0);
-    let events = vec![in alloc;
-        Event::Start {
-            plan: plan_of(alloc, &[ON], 1, 1, 1)?
-        },
-        Event::Scan { range, worker },
-        Event::Scan { range, worker },
-        Event::Seal { worker },
-        Event::Load { index: 0 },
-        Event::Switch,
-    ]?;
-    let plan = plan_of(alloc, &[ON], 1, 1, 1)?;
-    other_beside(
-        alloc,
-        THREE,
-        vec![in alloc; list_spool(alloc)?]?,
-        &plan,
-        &events,
-    )
-}
-
-fn while_lent(alloc: Global) -> Result<Option<usize>, Fault> {
-    let plan = plan_of(alloc, &[ON], 2, 2, 1)?;
-    let spools = vec![in alloc; list_spool(alloc)?, list_spool(alloc)?]?;
-    other_beside(alloc, PAIRED, spools, &plan, &[])
-}
-
+/// A switch looks at what it takes in, and lent workers look for themselves.
 #[test]
-fn a_switch_looks_at_what_it_takes_in(rt: HostRuntime) {
-    assert_eq!(rt; apart(rt.alloc()), Ok(None));
-}
-
-#[test]
-fn lent_workers_look_for_themselves(rt: HostRuntime) {
-    assert_eq!(rt; while_lent(rt.alloc()), Ok(None));
+fn halves_are_called_by_themselves(rt: HostRuntime) {
+    let apart = other_in(
+        rt.alloc(),
+        "table,2,int,int
+start,1,4,even:1,n:0
+",
+        &THREE,
+    );
+    assert_eq!(rt; apart, Ok(None));
+    let lent = other_in(
+        rt.alloc(),
+        "table,2,int,int
+start,2,4,even:2,n:0
+",
+        &SEVEN,
+    );
+    assert_eq!(rt; lent, Ok(None));
 }

@@ -5,16 +5,15 @@ ghost use Rattle.page_workers.specs.WorkerValue.{SameWorker};
 ghost use Rattle.building.specs.BuildingValue.{BuildingValue};
 ghost use Rattle.building.specs.Lent.{AreBack, CanLend};
 
-use crate::halves::{BACK, Told, first_other, scanned, started};
-use crate::list_spool::{Free, ListSpool};
+use crate::halves::{BACK, Plans, Told, first_other, scanned, started};
+use crate::list_spool::Lists;
 use crate::rows::row;
-use builder_core::{Building, Ends, Live, Plan, TableRings, Worker};
+use builder_core::{Building, Ends, Live, TableRings, Worker};
 use heap_table::PageImage;
 use keybytes::{Fault, Rid};
 use std::alloc::Global;
 
 /// What is done with the table while the workers are lent, or by one of them by itself.
-#[derive(Drop)]
 enum Lent {
     /// The next page of that range, for that worker.
     Scan(usize, usize),
@@ -48,7 +47,7 @@ static LENT: [(Lent, Told); 19] = [
     (Lent::Look(0), Ok(0)),
 ];
 
-fn by_worker(worker: &mut Worker<ListSpool<Free>>, what: &Lent) -> Told
+fn by_worker(worker: &mut Worker<Lists>, what: &Lent) -> Told
     ensures { SameWorker worker.old worker.new }
 {
     match what {
@@ -59,7 +58,7 @@ fn by_worker(worker: &mut Worker<ListSpool<Free>>, what: &Lent) -> Told
     }
 }
 
-fn by_one(workers: &mut Vec<Worker<ListSpool<Free>>>, number: usize, what: &Lent) -> Told
+fn by_one(workers: &mut Vec<Worker<Lists>>, number: usize, what: &Lent) -> Told
     ensures { (rings : List RingId) (rest : BuildingValue) → AreBack rings rest workers.old.items → AreBack rings rest workers.new.items }
 {
     if number >= workers.len() {
@@ -77,7 +76,7 @@ fn updated<T: TableRings>(alloc: Global, live: &mut Live<T>, number: i64) -> Tol
 fn does_while_lent<T: TableRings>(
     alloc: Global,
     live: &mut Live<T>,
-    workers: &mut Vec<Worker<ListSpool<Free>>>,
+    workers: &mut Vec<Worker<Lists>>,
     what: &Lent,
 ) -> Told
     ensures { (rings : List RingId) (rest : BuildingValue) → AreBack rings rest workers.old.items → AreBack rings rest workers.new.items }
@@ -95,7 +94,7 @@ fn does_while_lent<T: TableRings>(
 fn other_while_lent<T: TableRings>(
     alloc: Global,
     live: &mut Live<T>,
-    workers: &mut Vec<Worker<ListSpool<Free>>>,
+    workers: &mut Vec<Worker<Lists>>,
 ) -> Option<usize>
     ensures { (rings : List RingId) (rest : BuildingValue) → AreBack rings rest workers.old.items → AreBack rings rest workers.new.items }
 {
@@ -109,7 +108,7 @@ fn other_while_lent<T: TableRings>(
 }
 
 /// Whether a build goes on whose workers have their spools.
-fn can_lend<T: TableRings>(building: &Building<ListSpool<Free>, T>) -> bool
+fn can_lend<T: TableRings>(building: &Building<Lists, T>) -> bool
     ensures { result ≡ true → CanLend building.now }
 {
     match building.work() {
@@ -122,8 +121,8 @@ fn can_lend<T: TableRings>(building: &Building<ListSpool<Free>, T>) -> bool
 fn lend_and_gather<T: TableRings>(
     alloc: Global,
     live: &mut Live<T>,
-    building: Building<ListSpool<Free>, T>,
-) -> (Building<ListSpool<Free>, T>, Option<usize>)
+    building: Building<Lists, T>,
+) -> (Building<Lists, T>, Option<usize>)
     requires { CanLend building }
 {
     let (mut workers, rest) = building.lend();
@@ -137,18 +136,18 @@ pub fn lent_of<T: TableRings>(
     alloc: Global,
     live: Live<T>,
     ends: Ends<T>,
-    spools: Vec<ListSpool<Free>>,
-    plan: &Plan,
+    spools: Vec<Lists>,
+    plans: &Plans,
 ) -> Option<usize> {
     let mut live = live;
     let mut building = Building::new(ends, spools);
-    let started = started(&mut live, &mut building, plan);
+    let started = started(&mut live, &mut building, &plans.plan);
     if !can_lend(&building) {
         building.into_parts();
         return started.ok();
     }
     let (mut building, other) = lend_and_gather(alloc, &mut live, building);
-    let later = first_other(alloc, &mut live, &mut building, plan, &BACK);
+    let later = first_other(alloc, &mut live, &mut building, plans, &BACK);
     building.into_parts();
     other.or(later.map(|number| number.saturating_add(100)))
 }

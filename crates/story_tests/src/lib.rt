@@ -11,6 +11,8 @@ mod built;
 #[cfg(test)]
 mod calling;
 #[cfg(test)]
+mod ended;
+#[cfg(test)]
 mod events;
 #[cfg(test)]
 mod expected;
@@ -30,6 +32,8 @@ mod listing;
 mod made;
 #[cfg(test)]
 mod meetings;
+#[cfg(test)]
+mod one_session;
 #[cfg(test)]
 mod overlapping;
 #[cfg(test)]
@@ -60,8 +64,6 @@ mod story;
 mod tasks;
 #[cfg(test)]
 mod telling;
-#[cfg(test)]
-mod thread_builds;
 #[cfg(test)]
 mod together;
 #[cfg(test)]

@@ -36,6 +36,9 @@ pub struct ListSpool<H: Hold> {
     hold: H,
 }
 
+/// One that holds up no push.
+pub type Lists = ListSpool<Free>;
+
 impl<H: Hold> Model for ListSpool<H> {
     ghost use Rattle.std.specs.Prelude.{length, vec_capacity};
     ghost use Rattle.story_tests.specs.ListSpools.{ListSpoolValue, IsListSpool};

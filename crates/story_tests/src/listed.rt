@@ -1,89 +1,96 @@
-//! The first events of a story, told as one list.
+//! A story on a table of its own, its first events as one list.
 ghost use Rattle.std.specs.Prelude.{◌≡◌, All, map};
 
 use crate::events::event;
-use crate::made::{Made, list_spool, plain_spool, pool_of};
-use crate::place::Place;
+use crate::expected::{from_number, is_printed};
+use crate::list_spool::Lists;
+use crate::made::{Made, Paged};
+use crate::place::NO_FAULT;
 use crate::spoiled::is_refused_for;
 use crate::stand::Stand;
-use crate::story::{Kind, NONE, Stock};
-use crate::tasks::{Other, Prepared, parts, start_of};
-use crate::telling::{Mode, Went, on_if, told_otherwise};
-use crate::turns::Turn;
+use crate::story::{Kind, Stock, Story, stock_of};
+use crate::telling::{Way, told_otherwise};
+use crate::writing::start_of;
 use builder_core::{Ends, Event, Live, Parts, Reply, TableRings, run_events};
 use keybytes::{Fault, Schema};
-use prefix_spool::FaultySpool;
-use run_spool::{PlainSpool, Spool};
+use replay::table_parts;
+use run_spool::Spool;
+use script::NumberedCommand;
 use std::alloc::Global;
 use std::marker::Brand;
 
+/// A story's table and records.
+#[derive(Drop)]
+pub struct Prepared<'t> {
+    pub story: &'t Story,
+    pub table: &'t script::Table,
+    pub commands: &'t [NumberedCommand],
+    pub answers: &'t [u8],
+}
+
+/// The number of the first record that is told otherwise, or 0 where the story ends otherwise, or a spool doesn't come
+/// back; and whether the story was broken off.
+pub type Told = (Option<usize>, bool);
+
 /// The events with which the records begin.
-fn first_events(alloc: Global, schema: &Schema, turns: &[Turn<'_>]) -> Result<Vec<Event>, Fault> {
+fn first_events(
+    alloc: Global,
+    schema: &Schema,
+    commands: &[NumberedCommand],
+) -> Result<Vec<Event>, Fault> {
     let mut events = Vec::new(alloc);
-    for turn in turns {
-        match event(alloc, schema, &turn.command, u64::MAX)? {
-            Some(event) => events.push(event)?,
-            None => return Ok(events),
+    for record in commands {
+        match event(alloc, schema, &record.command, u64::MAX) {
+            Ok(event) => events.push(event)?,
+            Err(Fault::Memory) => return Err(Fault::Memory),
+            Err(_) => return Ok(events),
         }
     }
     Ok(events)
 }
 
-/// What the story's build wants.
-fn stock_of(turns: &[Turn<'_>]) -> Stock {
-    match start_of(turns) {
-        Some(start) => Stock {
-            quota: start.quota.min(1_024) as u32,
-            count: start.workers.saturating_mul(start.specs.len()),
-            is_used: false,
-        },
-        None => NONE,
-    }
-}
-
-/// How the replies go: to the end, or to one that memory was wanted for.
-fn replies_go<S: Made, T: TableRings>(
+/// The number of the first record whose reply is another; one that memory was wanted for may end the list.
+fn other_reply<S: Made, T: TableRings>(
     stand: &mut Stand<S, T>,
-    turns: &[Turn<'_>],
+    told: &Prepared<'_>,
     replies: Vec<Reply>,
-    is_short: bool,
-) -> Went {
-    let mut number: usize = 0;
+    way: &Way,
+) -> Option<usize> {
+    let mut place: usize = 0;
     for reply in replies {
         let answer = stand.answer_to(reply);
-        if is_short && is_refused_for(&answer, Fault::Memory) {
-            return Went::Ended;
+        if way.is_short && is_refused_for(&answer, Fault::Memory) {
+            return None;
         }
-        match turns.get(number) {
-            Some(turn) if turn.is_told(&answer) => {}
-            _ => return Went::Otherwise,
+        let number = told.commands.get(place)?.number;
+        if !is_printed(number, &answer, from_number(told.answers, number)) {
+            return Some(number);
         }
-        number = number.saturating_add(1);
+        place = place.saturating_add(1);
     }
-    Went::On
+    None
 }
 
-/// The same, and then the records behind them.
-fn goes_behind<S: Made, T: TableRings>(
+/// The same, and then of the records behind them, unless memory may have run out.
+fn other_behind<S: Made, T: TableRings>(
     stand: &mut Stand<S, T>,
-    alloc: Global,
-    turns: &[Turn<'_>],
-    replies: Vec<Reply>,
-    is_short: bool,
-) -> Went {
-    let count = replies.len().min(turns.len());
-    let went = replies_go(stand, turns, replies, is_short);
+    told: &Prepared<'_>,
+    replies: Result<Vec<Reply>, Fault>,
+    way: &Way,
+) -> Option<usize> {
+    let Ok(replies) = replies else {
+        return if way.is_short { None } else { Some(0) };
+    };
+    let count = replies.len().min(told.commands.len());
+    let other = other_reply(stand, told, replies, way);
     stand.ended();
-    match went {
-        Went::On if !is_short => on_if(told_otherwise(
-            stand,
-            alloc,
-            &turns[count..],
-            Mode::Plain,
-            &mut 0,
-        ).is_none()),
-        went => went,
+    if other.is_some() || way.is_list && way.is_short {
+        return other;
     }
+    let len = told.commands.len();
+    let end = way.stop.unwrap_or(len).min(len);
+    let commands = &told.commands[count.min(end)..end];
+    told_otherwise(stand, commands, told.answers, way)
 }
 
 /// Does a list of events on a table, beside these spools, which come back ended.
@@ -102,60 +109,64 @@ fn run_on<S: Spool, T: TableRings>(
     run_events(alloc, live, ends, spools, events)
 }
 
-fn listed_on<S: Made, T: TableRings>(
+/// Tells a story on a table under its name.
+fn told_on<S: Made, T: TableRings>(
     alloc: Global,
     parts: Parts,
     spools: Vec<S>,
     events: &[Event],
-    turns: &[Turn<'_>],
-    is_short: bool,
-) -> Went
+    told: &Prepared<'_>,
+    stock: Stock,
+    way: &Way,
+) -> Told
     requires pages { parts.pages ≡ T.pages }
     requires sides { parts.sides ≡ T.sides }
 {
-    let (live, ends, spools, replies) = run_on::<S, T>(alloc, parts, spools, events);
-    let mut stand = Stand::new(alloc, live, ends, spools, stock_of(turns), None);
-    let went = match replies {
-        Ok(replies) => goes_behind(&mut stand, alloc, turns, replies, is_short),
-        Err(_) => on_if(is_short),
+    let (live, ends, spools, replies) = if way.is_list {
+        run_on::<S, T>(alloc, parts, spools, events)
+    } else {
+        let (live, ends) = parts.open::<T>();
+        (live, ends, spools, Ok(Vec::new(alloc)))
     };
-    if stand.end() { went } else { Went::Otherwise }
-}
-
-fn listed_beside<S: Made>(
-    alloc: Global,
-    spools: Vec<S>,
-    told: &Prepared<'_>,
-    is_short: bool,
-) -> Result<Other, Fault> {
-    let parts = parts(alloc, told.table)?;
-    let events = first_events(alloc, parts.heap().schema(), told.turns)?;
-    match listed_on::<S, Brand>(alloc, parts, spools, &events, told.turns, is_short) {
-        Went::Otherwise => Ok(Some([0, 0, 0, 0])),
-        _ => Ok(None),
+    let faults = match &way.place {
+        Some(place) => place.faults(),
+        None => NO_FAULT,
+    };
+    let mut stand = Stand::new(alloc, live, ends, spools, stock, faults);
+    let other = other_behind(&mut stand, told, replies, way);
+    let is_broken = stand.is_broken;
+    if stand.end() {
+        (other, is_broken)
+    } else {
+        (Some(0), is_broken)
     }
 }
 
-/// The first worker's spool is a plain one, the second's keeps its runs in lists.
-fn listed_in_boxes(alloc: Global, told: &Prepared<'_>, is_short: bool) -> Result<Other, Fault> {
-    let quota = stock_of(told.turns).quota;
-    let plain: Box<dyn Spool + Send> = Box::new(
-        alloc,
-        plain_spool(alloc, &mut pool_of(alloc, quota, 1)?, quota)?,
-    )?;
-    let list: Box<dyn Spool + Send> = Box::new(alloc, list_spool(alloc)?)?;
-    listed_beside(alloc, vec![in alloc; plain, list]?, told, is_short)
+/// The spools that are there at first are the story's, or those that its build wants, where its events are one list.
+fn told_over<S: Made>(alloc: Global, told: &Prepared<'_>, way: &Way) -> Result<Told, Fault> {
+    let table = script::Table {
+        slot_limit: told.table.slot_limit,
+        kinds: told.table.kinds.to_vec(alloc)?,
+    };
+    let parts = table_parts(alloc, table)?;
+    let events = if way.is_list {
+        first_events(alloc, parts.heap().schema(), told.commands)?
+    } else {
+        Vec::new(alloc)
+    };
+    let mut stock = match start_of(told.commands) {
+        Some(start) if way.is_list => stock_of(start),
+        _ => Stock { ..told.story.given },
+    };
+    let spools = S::made(alloc, &mut stock, &NO_FAULT)?;
+    Ok(told_on::<S, Brand>(alloc, parts, spools, &events, told, stock, way))
 }
 
-/// Where the list or what is behind it goes otherwise, over new spools for its build.
-pub fn told_as_list(alloc: Global, told: &Prepared<'_>, is_short: bool) -> Result<Other, Fault> {
-    let place: Option<Place> = None;
+/// Tells a story over spools of its kind.
+pub fn told(alloc: Global, told: &Prepared<'_>, way: &Way) -> Result<Told, Fault> {
     match told.story.kind {
-        Kind::Boxed => listed_in_boxes(alloc, told, is_short),
-        _ => {
-            let stock = stock_of(told.turns);
-            let spools = <FaultySpool<PlainSpool> as Made>::made(alloc, stock, place)?;
-            listed_beside(alloc, spools, told, is_short)
-        }
+        Kind::Paged => told_over::<Paged>(alloc, told, way),
+        Kind::Lists => told_over::<Lists>(alloc, told, way),
+        Kind::Boxed => told_over::<Box<dyn Spool + Send>>(alloc, told, way),
     }
 }

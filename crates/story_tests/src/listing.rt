@@ -3,7 +3,7 @@
 use builder_core::{Entry, Pair};
 use heap_log::Outcome;
 use keybytes::{Cell, Fault, Key};
-use replay::{EntryLine, PairLine, SharedLine};
+use replay::{Answer, EntryLine, PairLine, SharedLine};
 use std::alloc::Global;
 use std::collections::vec_deque::Iter;
 
@@ -23,11 +23,13 @@ pub fn number_of(key: &Key) -> Option<i64> {
 }
 
 fn cells_of(alloc: Global, key: &Key) -> Result<Vec<Cell>, Fault> {
-    let number = number_of(key).ok_or(Fault::BadColumn)?;
+    let Some(number) = number_of(key) else {
+        return Err(Fault::BadColumn);
+    };
     Ok(vec![in alloc; Cell::Int(number)]?)
 }
 
-pub fn pair_lines(alloc: Global, pairs: &[Pair]) -> Result<Vec<PairLine>, Fault> {
+pub fn listed(alloc: Global, pairs: &[Pair]) -> Result<Answer, Fault> {
     let mut lines = Vec::new(alloc);
     for pair in pairs {
         lines.push(PairLine {
@@ -35,10 +37,10 @@ pub fn pair_lines(alloc: Global, pairs: &[Pair]) -> Result<Vec<PairLine>, Fault>
             rid: pair.rid,
         })?;
     }
-    Ok(lines)
+    Ok(Answer::Pairs { lines })
 }
 
-pub fn entry_lines(alloc: Global, entries: Iter<'_, Entry>) -> Result<Vec<EntryLine>, Fault> {
+pub fn listed_entries(alloc: Global, entries: Iter<'_, Entry>) -> Result<Answer, Fault> {
     let mut lines = Vec::new(alloc);
     for entry in entries {
         lines.push(EntryLine {
@@ -47,7 +49,7 @@ pub fn entry_lines(alloc: Global, entries: Iter<'_, Entry>) -> Result<Vec<EntryL
             rid: entry.rid,
         })?;
     }
-    Ok(lines)
+    Ok(Answer::Entries { lines })
 }
 
 /// Those of the indexes that the verdicts refuse.

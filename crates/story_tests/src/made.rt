@@ -1,28 +1,29 @@
 //! Spools of several kinds, and whether they come back.
 ghost use Rattle.std.specs.Prelude.{◌≡◌, [], IfOk};
 
-use crate::list_spool::{Free, ListSpool};
-use crate::place::{Place, coming_to};
+use crate::list_spool::{Free, ListSpool, Lists};
+use crate::place::Faults;
 use crate::story::Stock;
 use keybytes::{Fault, Key, Pair, Rid};
-use prefix_spool::FaultySpool;
+use prefix_spool::{Coming, FaultySpool};
 use run_spool::{PlainSpool, Spool, give_up};
 use spool_ledger::Pool;
 use std::alloc::Global;
 
+/// A spool over pages, with a fault that may come to it.
+pub type Paged = FaultySpool<PlainSpool>;
+
 /// A kind of spool.
 pub trait Made: Spool {
-    /// New ones, of which one may fail.
-    fn made(alloc: Global, stock: Stock, place: Option<Place>) -> Result<Vec<Self>, Fault>;
-
-    /// How many accounts stand behind so many.
-    fn accounts(count: usize) -> usize;
+    /// New ones, of which some may fail. Notes how many accounts stand behind them.
+    fn made(alloc: Global, stock: &mut Stock, faults: &Faults) -> Result<Vec<Self>, Fault>;
 }
 
-/// A spool of that many pages of the pool.
-pub fn plain_spool(alloc: Global, pool: &mut Pool, quota: u32) -> Result<PlainSpool, Fault>
+/// A spool of that many pages.
+fn plain_spool(alloc: Global, quota: u32) -> Result<PlainSpool, Fault>
     ensures { IfOk result (λ spool. spool.runs ≡ []) }
 {
+    let mut pool = Pool::new(alloc, 1, quota)?;
     let Some(account) = pool.split(alloc, &[quota])?.pop() else {
         return Err(Fault::Memory);
     };
@@ -32,91 +33,64 @@ pub fn plain_spool(alloc: Global, pool: &mut Pool, quota: u32) -> Result<PlainSp
     }
 }
 
-/// The same, with a pair in its open run where that is asked for.
-fn stocked(alloc: Global, pool: &mut Pool, stock: Stock) -> Result<PlainSpool, Fault> {
-    let mut spool = plain_spool(alloc, pool, stock.quota)?;
-    if !stock.is_used {
-        return Ok(spool);
-    }
-    let pair = Pair {
-        key: Key::new(alloc),
-        rid: Rid { page: 0, slot: 0 },
-    };
-    match Spool::push(&mut spool, pair) {
-        Ok(()) => Ok(spool),
-        Err((_, fault)) => Err(fault),
-    }
-}
-
-fn faulty_spools(
-    alloc: Global,
-    pool: &mut Pool,
-    stock: Stock,
-    place: Option<Place>,
-) -> Result<Vec<FaultySpool<PlainSpool>>, Fault> {
-    let mut spools = Vec::with_capacity(alloc, stock.count)?;
-    for number in 0..stock.count {
-        let spool = stocked(alloc, pool, stock)?;
-        spools.push(FaultySpool::new(spool, coming_to(place, number)))?;
-    }
-    Ok(spools)
-}
-
-/// A pool of as many pages as all have, of which a story has few.
-pub fn pool_of(alloc: Global, quota: u32, count: usize) -> Result<Pool, Fault> {
-    Pool::new(alloc, 1, quota.saturating_mul(count.min(64) as u32))
-}
-
 impl Made for FaultySpool<PlainSpool> {
     fn made(
         alloc: Global,
-        stock: Stock,
-        place: Option<Place>,
+        stock: &mut Stock,
+        faults: &Faults,
     ) -> Result<Vec<FaultySpool<PlainSpool>>, Fault> {
-        let mut pool = pool_of(alloc, stock.quota, stock.count)?;
-        faulty_spools(alloc, &mut pool, stock, place)
-    }
-
-    fn accounts(count: usize) -> usize {
-        count
+        stock.accounts = stock.count;
+        let mut spools = Vec::new(alloc);
+        for number in 0..stock.count {
+            let coming = match faults.get(number) {
+                Some(coming) => *coming,
+                None => Coming::Nothing,
+            };
+            let mut spool = FaultySpool::new(plain_spool(alloc, stock.quota)?, coming);
+            if stock.is_used {
+                let _taken = spool.push(Pair {
+                    key: Key::new(alloc),
+                    rid: Rid { page: 0, slot: 0 },
+                });
+            }
+            spools.push(spool)?;
+        }
+        Ok(spools)
     }
 }
 
 /// A spool for four runs of eight pairs each.
-pub fn list_spool(alloc: Global) -> Result<ListSpool<Free>, Fault> {
+pub fn list_spool(alloc: Global) -> Result<Lists, Fault> {
     ListSpool::new(alloc, 4, 8, Free)
 }
 
-impl Made for ListSpool<Free> {
-    fn made(
-        alloc: Global,
-        stock: Stock,
-        _place: Option<Place>,
-    ) -> Result<Vec<ListSpool<Free>>, Fault> {
+impl Made for Lists {
+    fn made(alloc: Global, stock: &mut Stock, _faults: &Faults) -> Result<Vec<Lists>, Fault> {
         let mut spools = Vec::new(alloc);
         for _ in 0..stock.count {
             spools.push(list_spool(alloc)?)?;
         }
         Ok(spools)
     }
-
-    fn accounts(_count: usize) -> usize {
-        0
-    }
 }
 
-/// Boxes are made where they are used: one of two has an account behind it.
 impl Made for Box<dyn Spool + Send> {
     fn made(
-        _alloc: Global,
-        _stock: Stock,
-        _place: Option<Place>,
+        alloc: Global,
+        stock: &mut Stock,
+        _faults: &Faults,
     ) -> Result<Vec<Box<dyn Spool + Send>>, Fault> {
-        Err(Fault::BadCount)
-    }
-
-    fn accounts(count: usize) -> usize {
-        count / 2
+        stock.accounts = stock.count.div_ceil(2);
+        let mut spools = Vec::new(alloc);
+        for number in 0..stock.count {
+            let spool: Box<dyn Spool + Send> = if number % 2 == 0 {
+                Box::new(alloc, plain_spool(alloc, stock.quota)?)?
+            } else {
+                Box::new(alloc, list_spool(alloc)?)?
+            };
+            spools.push(spool)?;
+        }
+        Ok(spools)
     }
 }
 
@@ -132,11 +106,11 @@ fn accounts_behind<S: Spool>(spool: S, quota: u32) -> usize {
 }
 
 /// Whether all spools came back, each ended and with all its pages.
-pub fn come_back<S: Made>(spools: Vec<S>, stock: Stock) -> bool {
+pub fn come_back<S: Spool>(spools: Vec<S>, stock: &Stock) -> bool {
     let count = spools.len();
-    let mut accounts: usize = 0;
+    let mut found: usize = 0;
     for spool in spools {
-        accounts = accounts.saturating_add(accounts_behind(spool, stock.quota));
+        found = found.saturating_add(accounts_behind(spool, stock.quota));
     }
-    count == stock.count && accounts == S::accounts(count)
+    count == stock.count && found == stock.accounts
 }

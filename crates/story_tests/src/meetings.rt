@@ -1,396 +1,322 @@
-//! Stories of one session on a shared table, with a build between two parts of it.
+//! Sessions that meet on a table, and a build beside them.
 ghost use Rattle.std.specs.Prelude.{◌≡◌};
 
-use crate::events::txn_of;
-use crate::expected::is_printed;
-use crate::made::come_back;
-use crate::rows::{On, PAIRED, Rows, shared_table, spec};
-use crate::session_steps::{listed, session_answer};
-use crate::thread_builds::{Build, FIRST, WHOLE};
-use crate::turns::{Turn, turns_of};
-use crate::watch::Watch;
-use builder_core::{Ends, Plan};
-use crew::{BuildFault, Opened, Receipt, Report, Session, Table, TableParts, build};
-use keybytes::Fault;
-use prefix_spool::FaultySpool;
-use replay::Answer;
-use run_spool::PlainSpool;
-use script::{Command, Script};
+use crate::beside::{Told, Written, gathered, written};
+use crate::ended::{Ended, ended};
+use crate::list_spool::{Hold, ListSpool};
+use crate::made::{Made, Paged};
+use crate::place::{Faults, NO_FAULT};
+use crate::programs::{IDLE, Program, does};
+use crate::reported::{are_reported, committed};
+use crate::rows::{Rows, SEVEN, asked};
+use crate::story::Stock;
+use crate::watch::{FREE, Holds, Seen, Watch};
+use builder_core::{Ends, Parts, Plan};
+use crew::{Opened, Phase, Receipt, Report, Session, Table, TableParts};
+use heap_log::Outcome;
+use keybytes::{Fault, KeySpec};
+use run_spool::Spool;
 use std::alloc::Global;
 use std::marker::Brand;
+use std::process::Abort;
 use std::sync::Wait;
 use std::thread::Threads;
 
-/// What a session does before a build and behind it, as scripts and answers. The labels are the numbers of the
-/// transactions.
-struct Meeting {
-    rows: Rows,
-    /// How many records a new session knows.
-    known: usize,
-    before: (&'static str, &'static str),
-    build: Option<&'static Build>,
-    /// What the pairs of each index are that the build tells; or the fault that it is given up for.
-    told: Result<&'static str, Fault>,
-    behind: (&'static str, &'static str),
+/// What happens on a table, and what comes of it.
+pub struct Meeting {
+    /// The table, and the build of its indexes.
+    pub script: &'static str,
+    pub rows: &'static Rows,
+    /// Whether there is a build; how many turns try its switch; whether its spools have a pair each; and whether ranges
+    /// are dealt to the threads of the workers.
+    pub is_built: bool,
+    pub tries: u32,
+    pub is_used: bool,
+    pub is_dealt: bool,
+    /// What comes to its spools, and whether these keep lists and hold their first push.
+    pub faults: Faults,
+    pub is_held: bool,
+    pub holds: &'static Holds,
+    /// What a session does before and behind the others, and where those stand that are beside the build.
+    pub before: &'static Program,
+    pub place: usize,
+    pub behind: &'static Program,
+    /// Whether its last receipt is kept back.
+    pub keeps_back: bool,
+    /// Whether nobody writes right behind the switch, so that the report has the pairs that a session reads; or whether it
+    /// has those of the rows that [`are_reported`] knows, of which memory may leave none.
+    pub is_quiet: bool,
+    pub is_known: bool,
+    /// How many rows there are more in the end.
+    pub further: usize,
+    /// How many indexes are ready then, and how many pairs they have, or why the build is given up.
+    pub told: Result<(usize, usize), Fault>,
+    /// How many receipts there are at least and at most, and how many records are missing.
+    pub given: (usize, usize),
+    pub missing: usize,
+    /// What the threads of the build tell, as far as that is known.
+    pub seen: &'static [u64],
 }
 
-/// A session inserts a row, reads it, deletes it, finds it no more, and takes that back. A transaction without a write
-/// ends without a record, and one that holds a row keeps another from it.
-static READ_BACK: Meeting = Meeting {
-    rows: Rows {
-        slots: 255,
-        count: 3,
-        distinct: 3,
-        ..PAIRED
-    },
-    known: 4,
-    before: (
-        "table,255,int,int
-begin,2
-insert,2,42,0
-get,0.3
-delete,2,0.3
-get,0.3
-undo,2
-undo,2
-begin,3
-undo,3
-begin,4
-begin,5
-update,4,0.0,9,9
-delete,5,0.0
-commit,4
+/// A build of the seven rows by one worker.
+pub const WHOLE: Meeting = Meeting {
+    script: "table,2,int,int
+start,1,4,even:1,n:0
 ",
-        "1,ok
-2,ok,2
-3,ok,5,0.3
-4,ok,42,0
-5,ok,6,0.3
-6,refused,21,NoSuchRow
-7,ok,7,1
-8,ok,8,0
-9,ok,3
-10,ok,0,0
-11,ok,4
-12,ok,5
-13,ok,9,0.0
-14,refused,22,RowHeld,4
-15,ok,10
-",
-    ),
-    build: None,
-    told: Ok(""),
-    behind: ("table,255,int,int\n", ""),
+    rows: &SEVEN,
+    is_built: true,
+    tries: 2,
+    is_used: false,
+    is_dealt: true,
+    faults: NO_FAULT,
+    is_held: false,
+    holds: &FREE,
+    before: &IDLE,
+    place: usize::MAX,
+    behind: &IDLE,
+    keeps_back: false,
+    is_quiet: true,
+    is_known: false,
+    further: 0,
+    told: Ok((1, 7)),
+    given: (1, 1),
+    missing: 0,
+    seen: &[],
 };
 
-const UNIQUE: On = On {
-    column: 0,
-    is_unique: true,
-};
+/// What a build is asked for: its plan and its spools.
+#[derive(Drop)]
+pub struct Asked {
+    pub plan: Plan,
+    pub stock: Stock,
+}
 
-/// A plain index and a unique one of an empty table, which gets the keys 5 and 3 before the build and 4 behind it.
-static READ_PAIRS: Meeting = Meeting {
-    rows: Rows {
-        slots: 255,
-        count: 0,
-        ..PAIRED
-    },
-    known: 1,
-    before: (
-        "table,255,int,int
-begin,2
-insert,2,5,0
-insert,2,3,0
-commit,2
-",
-        "1,ok
-2,ok,2
-3,ok,2,0.0
-4,ok,3,0.1
-5,ok,4
-",
-    ),
-    build: Some(&TWO_INDEXES),
-    told: Ok(
-        "1,ok,2
-1,pair,3,0.1
-1,pair,5,0.0
-",
-    ),
-    behind: (
-        "table,255,int,int
-begin,3
-insert,3,4,0
-commit,3
-pairs,0
-pairs,1
-",
-        "1,ok
-2,ok,3
-3,ok,6,0.2
-4,ok,7
-5,ok,3
-5,pair,3,0.1
-5,pair,4,0.2
-5,pair,5,0.0
-6,ok,3
-6,pair,3,0.1
-6,pair,4,0.2
-6,pair,5,0.0
-",
-    ),
-};
+/// What a meeting comes to, and what the threads of its build told.
+pub type Came = (Ended, Seen);
 
-const TWO_INDEXES: Build = Build {
-    indexes: &[FIRST, UNIQUE],
-    ..WHOLE
-};
+/// The first push of a spool.
+#[derive(Drop)]
+struct First<'w> {
+    watch: Option<&'w Watch>,
+}
 
-/// A build of a unique index that waits in vain for a transaction, and then lifts the fence.
-static IN_VAIN: Meeting = Meeting {
-    rows: PAIRED,
-    known: 8,
-    before: (
-        "table,2,int,int
-begin,2
-insert,2,100,0
-",
-        "1,ok
-2,ok,2
-3,ok,9,3.1
-",
-    ),
-    build: Some(&ONE_UNIQUE),
-    told: Err(Fault::Busy(1)),
-    behind: (
-        "table,2,int,int
-begin,3
-",
-        "1,ok
-2,ok,3
-",
-    ),
-};
-
-const ONE_UNIQUE: Build = Build {
-    indexes: &[UNIQUE],
-    ..WHOLE
-};
-
-/// The transaction of a command, which its label is the number of.
-fn txn_in(command: &Command) -> u64 {
-    match command {
-        Command::Insert { label, .. }
-        | Command::Update { label, .. }
-        | Command::Delete { label, .. }
-        | Command::Undo { label }
-        | Command::Commit { label } => txn_of(label, u64::MAX),
-        _ => 0,
+impl Hold for First<'_> {
+    fn hold(&mut self) {
+        if let Some(watch) = self.watch.take() {
+            watch.hold(0, 0);
+        }
     }
 }
 
-/// Whether the session knows the log as far as the newest record that it answers.
-fn has_seen<T: Opened>(session: &Session<'_, T>, answer: &Answer) -> bool {
-    match answer {
-        Answer::Written { number, .. } => session.seen() == *number,
-        Answer::Undone { number, .. } if *number > 0 => session.seen() == *number,
-        _ => true,
-    }
+/// A spool for runs of 4,096 pairs, whose first push is held up.
+fn held(alloc: Global, watch: &Watch) -> Result<ListSpool<First<'_>>, Fault> {
+    ListSpool::new(alloc, 3, 4096, First { watch: Some(watch) })
 }
 
-/// Whether a record is answered so.
-fn is_told<T: Opened, R: Wait>(
+/// Whether the report has the pairs of each index that is ready, as the session reads them, who reads no further index.
+fn is_read<T: Opened, R: Wait>(
     rt: &R,
     alloc: Global,
     session: &mut Session<'_, T>,
-    receipts: &mut Vec<Receipt<T>>,
-    turn: &Turn<'_>,
+    report: &Report<T>,
+    specs: &[KeySpec],
 ) -> bool {
-    let txn = txn_in(&turn.command);
-    let answer = match session_answer(rt, alloc, session, receipts, txn, &turn.command) {
-        Ok(answer) => answer,
-        Err(fault) => Answer::Refused { fault },
+    let Some(pairs) = &report.pairs else {
+        return false;
     };
-    turn.is_told(&answer) && has_seen(session, &answer)
+    let verdicts = report.verdicts.as_slice();
+    let mut ready: usize = 0;
+    for number in 0..specs.len() {
+        if !matches!(verdicts.get(number), Some(Outcome::Ready(_))) {
+            continue;
+        }
+        match session.pairs(rt, alloc, ready) {
+            Ok((on, read)) if on.is_same(&specs[number]) && pairs.get(ready) == Some(&read) => {}
+            _ => return false,
+        }
+        ready = ready.saturating_add(1);
+    }
+    pairs.len() == ready && session.pairs(rt, alloc, ready).is_err()
 }
 
-/// The number of the first record that is answered otherwise.
-fn first_other<T: Opened, R: Wait>(
+/// Whether a build tells the pairs that it should.
+fn is_report<T: Opened, R: Wait>(
     rt: &R,
     alloc: Global,
     session: &mut Session<'_, T>,
-    receipts: &mut Vec<Receipt<T>>,
-    texts: (&str, &str),
-) -> Result<usize, Fault> {
-    let Ok(script) = Script::parse(alloc, texts.0.as_bytes()) else {
-        return Err(Fault::Memory);
-    };
-    let turns = turns_of(alloc, script.commands, texts.1.as_bytes())?;
-    for turn in &turns {
-        if !is_told(rt, alloc, session, receipts, turn) {
-            return Ok(turn.number);
-        }
-    }
-    Ok(0)
-}
-
-/// Whether the session reads so many ready indexes on these columns.
-fn are_on<T: Opened, R: Wait>(
-    rt: &R,
-    alloc: Global,
-    session: &mut Session<'_, T>,
-    indexes: &[On],
-) -> Result<bool, Fault> {
-    for number in 0..indexes.len() {
-        let (on, _) = session.pairs(rt, alloc, number)?;
-        if !on.is_same(&spec(alloc, indexes[number])?) {
-            return Ok(false);
-        }
-    }
-    Ok(session.pairs(rt, alloc, indexes.len()).is_err())
-}
-
-/// Whether a report has these pairs of each index; its receipt is kept.
-fn is_reported<T: Opened>(
-    alloc: Global,
-    report: Report<T>,
-    receipts: &mut Vec<Receipt<T>>,
-    told: &str,
-) -> Result<bool, Fault> {
-    let Report {
-        receipt,
-        verdicts: _,
-        pairs,
-    } = report;
-    receipts.push(receipt)?;
-    let Some(pairs) = pairs else {
-        return Ok(false);
-    };
-    for own in &pairs {
-        if !is_printed(1, &listed(alloc, own)?, told.as_bytes()) {
-            return Ok(false);
-        }
-    }
-    Ok(pairs.len() == 2)
-}
-
-/// Whether a build comes to that, and its spools come back.
-fn builds_so<T: Opened + Send + Sync, R: Threads + Wait + Sync>(
-    rt: &R,
-    alloc: Global,
-    table: &Table<T>,
-    ends: Ends<T>,
-    plan: &Plan,
-    spools: Vec<FaultySpool<PlainSpool>>,
-    receipts: &mut Vec<Receipt<T>>,
-    wanted: Result<&str, Fault>,
-    asked: &Build,
-) -> Result<bool, Fault> {
-    let watch = Watch::new(asked.holds, asked.is_dealt);
-    let (_ends, spools, told) = build(rt, alloc, table, ends, plan, spools, &watch);
-    let are_back = come_back(spools, asked.stock());
-    let is_so = match (told, wanted) {
-        (Ok(report), Ok(told)) => is_reported(alloc, report, receipts, told)?,
-        (Err(BuildFault(fault)), Err(told)) => fault == told,
-        _ => false,
-    };
-    Ok(are_back && is_so)
-}
-
-/// Whether a session does all that it should, and so does the build.
-fn meet<T: Opened + Send + Sync, R: Threads + Wait + Sync>(
-    rt: &R,
-    alloc: Global,
-    table: &Table<T>,
-    ends: Ends<T>,
-    plan: &Plan,
-    spools: Vec<FaultySpool<PlainSpool>>,
-    receipts: &mut Vec<Receipt<T>>,
+    report: &Report<T>,
+    receipts: &[Receipt<T>],
+    specs: &[KeySpec],
     meeting: &Meeting,
-) -> Result<bool, Fault> {
-    let mut session = table.session(rt);
-    if session.seen() != meeting.known {
-        return Ok(false);
+) -> bool {
+    if meeting.is_known {
+        let commits = committed(receipts, report.receipt.number());
+        return are_reported(&report.pairs, meeting.behind.is_short, commits);
     }
-    let before = first_other(rt, alloc, &mut session, receipts, meeting.before)?;
-    if before != 0 {
-        return Ok(false);
-    }
-    if let Some(asked) = meeting.build {
-        if !builds_so(
-            rt,
-            alloc,
-            table,
-            ends,
-            plan,
-            spools,
-            receipts,
-            meeting.told,
-            asked,
-        )? {
-            return Ok(false);
-        }
-        if meeting.told.is_ok() && !are_on(rt, alloc, &mut session, asked.indexes)? {
-            return Ok(false);
-        }
-    }
-    Ok(first_other(rt, alloc, &mut session, receipts, meeting.behind)? == 0)
+    !meeting.is_quiet || is_read(rt, alloc, session, report, specs)
 }
 
-/// How many receipts there are, and how many records are missing, if all went as it should.
-fn met<T: Opened + Send + Sync, R: Threads + Wait + Sync>(
+/// What is written, and what the build tells. One session is there before all else and goes on behind it.
+fn met<S: Spool + Send, T: Opened + Send + Sync, R: Threads + Wait + Sync>(
+    rt: &R,
+    alloc: Global,
+    table: &Table<T>,
+    ends: Ends<T>,
+    spools: Vec<S>,
+    asked: &Asked,
+    watch: &Watch,
+    meeting: &Meeting,
+) -> (Written<T>, Told<T>) {
+    let mut session = table.session(rt);
+    let mut receipts = Vec::new(alloc);
+    let mut is_fine = session.seen() == (meeting.rows.count as usize).saturating_add(1);
+    is_fine &= does(
+        rt,
+        alloc,
+        table,
+        &mut session,
+        &mut receipts,
+        meeting.before,
+        watch,
+    );
+    let (beside, told) = written(rt, alloc, table, ends, spools, asked, watch, meeting);
+    let (mut receipts, mut is_fine) = gathered(beside, (receipts, is_fine));
+    if let Some(Ok(report)) = &told {
+        let specs = asked.plan.specs.as_slice();
+        is_fine &= is_report(rt, alloc, &mut session, report, &receipts, specs, meeting);
+    }
+    is_fine &= does(
+        rt,
+        alloc,
+        table,
+        &mut session,
+        &mut receipts,
+        meeting.behind,
+        watch,
+    );
+    is_fine &= table.progress(rt).phase == Phase::Idle;
+    if meeting.keeps_back {
+        let _last = receipts.pop();
+    }
+    ((receipts, is_fine), told)
+}
+
+/// What it comes to, if all goes as it may.
+fn came_to<S: Spool + Send, T: Opened + Send + Sync, R: Threads + Wait + Sync>(
     rt: &R,
     alloc: Global,
     parts: TableParts,
-    plan: &Plan,
-    spools: Vec<FaultySpool<PlainSpool>>,
+    spools: Vec<S>,
+    asked: &Asked,
+    watch: &Watch,
     meeting: &Meeting,
-) -> Result<Option<(usize, usize)>, Fault>
+) -> Option<Ended>
     requires word { parts.word ≡ T.table }
     requires pages { parts.parts.pages ≡ T.pages }
     requires sides { parts.parts.sides ≡ T.sides }
     requires opening { parts.parts.heap.log ≡ T.opening }
 {
     let (table, ends) = parts.open::<T>();
-    let mut receipts = Vec::new(alloc);
-    let is_so = meet(
-        rt,
-        alloc,
-        &table,
-        ends,
-        plan,
-        spools,
-        &mut receipts,
-        meeting,
-    );
-    let given = receipts.len();
-    let missing = table.close(receipts).missing;
-    Ok((is_so?).then_some((given, missing)))
+    let (written, told) = met(rt, alloc, &table, ends, spools, asked, watch, meeting);
+    ended(table, written, told, &asked.plan.specs, meeting)
 }
 
-fn outcome<R: Threads + Wait + Sync>(
+/// A table to be shared, and the build that is asked for.
+pub fn shared(alloc: Global, meeting: &Meeting) -> Result<(TableParts, Asked), Fault> {
+    let (heap, plan, stock) = asked(alloc, meeting.script, meeting.rows, meeting.tries)?;
+    let asked = Asked {
+        plan,
+        stock: Stock {
+            is_used: meeting.is_used,
+            ..stock
+        },
+    };
+    let parts = match Parts::new(alloc, heap) {
+        Ok(parts) => parts,
+        Err((_, fault)) => return Err(fault),
+    };
+    match TableParts::new(alloc, parts) {
+        Ok(parts) => Ok((parts, asked)),
+        Err((_, fault)) => Err(fault),
+    }
+}
+
+/// The same over these spools.
+fn came_over<S: Spool + Send, R: Threads + Wait + Sync>(
+    rt: &R,
+    alloc: Global,
+    parts: TableParts,
+    spools: Vec<S>,
+    asked: &Asked,
+    watch: &Watch,
+    meeting: &Meeting,
+) -> Result<Came, Fault> {
+    let came = came_to::<S, Brand, R>(rt, alloc, parts, spools, asked, watch, meeting);
+    match (came, watch.seen()) {
+        (Some(came), Some(seen)) => Ok((came, seen)),
+        (None, _) => Err(Fault::BuildRunning),
+        (_, None) => Err(Fault::Busy(0)),
+    }
+}
+
+/// What a meeting comes to.
+pub fn outcome<R: Threads + Wait + Sync>(
     rt: &R,
     alloc: Global,
     meeting: &Meeting,
-) -> Result<Option<(usize, usize)>, Fault> {
-    let asked = meeting.build.unwrap_or(&WHOLE);
-    let plan = asked.plan(alloc)?;
-    let spools = asked.spools(alloc, &[])?;
-    let parts = shared_table(alloc, meeting.rows)?;
-    met::<Brand, R>(rt, alloc, parts, &plan, spools, meeting)
+    faults: &Faults,
+) -> Result<Came, Fault> {
+    let watch = Watch::new(meeting.holds, meeting.is_dealt);
+    let (parts, mut asked) = shared(alloc, meeting)?;
+    if meeting.is_held {
+        let spools = vec![in alloc; held(alloc, &watch)?, held(alloc, &watch)?]?;
+        return came_over(rt, alloc, parts, spools, &asked, &watch, meeting);
+    }
+    let spools = <Paged as Made>::made(alloc, &mut asked.stock, faults)?;
+    came_over(rt, alloc, parts, spools, &asked, &watch, meeting)
 }
 
-#[test]
-fn read_back(rt: HostRuntime) {
-    assert_eq!(rt; outcome(&rt, rt.alloc(), &READ_BACK), Ok(Some((6, 0))));
+/// Whether it is what it should come to.
+pub fn is_so(meeting: &Meeting, came: &Result<Came, Fault>) -> bool {
+    let Ok(came) = came else {
+        return false;
+    };
+    let (told, given, missing) = came.0;
+    let seen = came.1;
+    told == meeting.told
+        && meeting.given.0 <= given
+        && given <= meeting.given.1
+        && missing == meeting.missing
+        && begins_with(&seen, meeting.seen)
 }
 
-#[test]
-fn read_pairs(rt: HostRuntime) {
-    assert_eq!(rt; outcome(&rt, rt.alloc(), &READ_PAIRS), Ok(Some((6, 0))));
+/// Whether the numbers begin with those wanted.
+fn begins_with(numbers: &[u64], wanted: &[u64]) -> bool {
+    for place in 0..wanted.len() {
+        if numbers.get(place).copied() != wanted.get(place).copied() {
+            return false;
+        }
+    }
+    true
 }
 
-#[test]
-fn in_vain_lifts_the_fence(rt: HostRuntime) {
-    assert_eq!(rt; outcome(&rt, rt.alloc(), &IN_VAIN), Ok(Some((1, 0))));
+/// The first of these meetings that comes to something else, and to what.
+fn other_of<R: Threads + Wait + Sync>(
+    rt: &R,
+    alloc: Global,
+    meetings: &[Meeting],
+) -> Option<(usize, Result<Came, Fault>)> {
+    for number in 0..meetings.len() {
+        let meeting = &meetings[number];
+        let came = outcome(rt, alloc, meeting, &meeting.faults);
+        if !is_so(meeting, &came) {
+            return Some((number, came));
+        }
+    }
+    None
+}
+
+/// Asserts that each of these meetings comes to what it should.
+pub fn expect<R: Abort + Threads + Wait + Sync>(rt: &R, alloc: Global, meetings: &[Meeting]) {
+    assert_eq!(rt; other_of(rt, alloc, meetings), None);
 }

@@ -4,8 +4,19 @@ use keybytes::Fault;
 use prefix_spool::Coming;
 use script::Command;
 
+/// What may come to each of four spools.
+pub type Faults = [Coming; 4];
+
+/// Nothing comes.
+pub const NO_FAULT: Faults = [
+    Coming::Nothing,
+    Coming::Nothing,
+    Coming::Nothing,
+    Coming::Nothing,
+];
+
 /// One place where a spool can fail.
-#[derive(Clone, Copy)]
+#[derive(Drop)]
 pub struct Place {
     /// That of worker w and index i has the number w times the indexes, plus i.
     pub spool: usize,
@@ -15,11 +26,27 @@ pub struct Place {
     pub is_push: bool,
     /// How many of them go well before it.
     pub before: u32,
+    /// Whether a build comes so far.
+    pub is_reached: bool,
 }
 
 impl Place {
+    /// The place of that number: in one spool after another at each of so many pushes, and then at each read. Behind those
+    /// of either kind is one that isn't reached.
+    pub fn numbered(number: usize, indexes: usize, pairs: u32) -> Place {
+        let number = number.min(10_000) as u32;
+        let each = pairs.saturating_add(1);
+        Place {
+            spool: (number / each / 2) as usize,
+            indexes,
+            is_push: number / each % 2 == 0,
+            before: number % each,
+            is_reached: number % each < pairs,
+        }
+    }
+
     /// What a step answers that comes upon it.
-    pub fn fault(self) -> Fault {
+    pub fn fault(&self) -> Fault {
         if self.is_push {
             Fault::NoPage
         } else {
@@ -27,8 +54,19 @@ impl Place {
         }
     }
 
+    /// What comes to the spools.
+    pub fn faults(&self) -> Faults {
+        let mut faults = NO_FAULT;
+        faults[self.spool.min(3)] = if self.is_push {
+            Coming::FullBehind(self.before)
+        } else {
+            Coming::MemoryBehind(self.before)
+        };
+        faults
+    }
+
     /// Which step may come upon it: a digest or a seal of the spool's worker, or the load of the spool's index.
-    pub fn is_met_by(self, command: &Command) -> bool {
+    pub fn is_met_by(&self, command: &Command) -> bool {
         let indexes = self.indexes.max(1);
         match command {
             Command::Digest { worker } | Command::Seal { worker } => {
@@ -37,14 +75,5 @@ impl Place {
             Command::Load { index } => !self.is_push && *index == self.spool % indexes,
             _ => false,
         }
-    }
-}
-
-/// What comes to the spool of that number.
-pub fn coming_to(place: Option<Place>, number: usize) -> Coming {
-    match place {
-        Some(place) if place.spool == number && place.is_push => Coming::FullBehind(place.before),
-        Some(place) if place.spool == number => Coming::MemoryBehind(place.before),
-        _ => Coming::Nothing,
     }
 }

@@ -1,21 +1,24 @@
-//! What sessions do in threads of their own, where nobody knows beforehand how they meet.
+//! What sessions do, also in threads of their own, where nobody knows beforehand how they meet.
 
+use crate::events::txn_of;
+use crate::expected::{from_number, is_printed};
 use crate::session_steps::session_answer;
-use crate::writing::round_of;
-use crew::{Opened, Receipt, Session};
+use crate::watch::Watch;
+use crate::writing::script_of;
+use crew::{Opened, Phase, Receipt, Session, Table};
 use keybytes::Fault;
 use replay::Answer;
 use script::{Command, Script};
 use std::alloc::Global;
 use std::sync::Wait;
+use std::sync::atomic::Ordering;
 use std::thread;
 
 /// How often a session looks for an index before it gives up.
 const LOOKS: usize = 1_000_000;
 
-/// What a session does: a script a round, one transaction after another, in which the numbers behind a `+` grow by one
-/// a round.
-#[derive(Drop)]
+/// What a session does: a script a round, in which the numbers behind a `+` grow by one a round. A label that is a number
+/// is that of its transaction, any other stands for the newest one.
 pub struct Program {
     pub script: &'static str,
     /// How many rounds there are at most until an index is ready; 0 waits for none.
@@ -23,8 +26,14 @@ pub struct Program {
     /// The script of the rounds behind these, and how many there are.
     pub behind: &'static str,
     pub rounds: usize,
+    /// What its records are answered, where that is known: else any answers will do that a transaction may get.
+    pub answers: &'static str,
     /// Whether memory may run out once.
     pub is_short: bool,
+    /// Whether each insert is refused since its key is another row's.
+    pub is_denied: bool,
+    /// Whether there is a round whenever a thread of the build asks for it, until the build has returned.
+    pub is_asked: bool,
 }
 
 /// Nothing.
@@ -33,10 +42,14 @@ pub const IDLE: Program = Program {
     beside: 0,
     behind: "",
     rounds: 0,
+    answers: "",
     is_short: false,
+    is_denied: false,
+    is_asked: false,
 };
 
 /// A session's transaction, by the answers that it got.
+#[derive(Drop)]
 struct Course {
     txn: u64,
     is_open: bool,
@@ -44,41 +57,13 @@ struct Course {
     is_ending: bool,
     /// How many of its writes stand.
     writes: usize,
-}
-
-impl Drop for Course {
-    fn drop(self) {
-        let Course {
-            txn: _,
-            is_open: _,
-            is_ending: _,
-            writes: _,
-        } = self;
-    }
+    /// Whether each insert is refused since its key is another row's.
+    is_denied: bool,
 }
 
 impl Course {
     fn may_write(&self) -> bool {
         self.is_open && !self.is_ending
-    }
-
-    fn begins(&mut self, txn: u64) -> bool {
-        self.txn = txn;
-        self.is_open = true;
-        self.is_ending = false;
-        self.writes = 0;
-        true
-    }
-
-    fn writes_one(&mut self) -> bool {
-        self.writes = self.writes.saturating_add(1);
-        self.may_write()
-    }
-
-    fn commits(&mut self) -> bool {
-        let was_open = self.may_write();
-        self.is_open = false;
-        was_open
     }
 
     /// A step of a rollback takes the newest write back; where there is none it writes no record.
@@ -91,31 +76,56 @@ impl Course {
         is_next && was_open
     }
 
-    /// Whether a write may be refused so: another transaction holds the row, or has the key of the first index or may
+    /// Whether a command may be refused so: another transaction holds the row, or has the key of the first index or may
     /// give it back.
     fn may_be_refused(&self, command: &Command, fault: Fault) -> bool {
         match (command, fault) {
-            (Command::Update { .. }, Fault::RowHeld(other)) => other != self.txn,
-            (Command::Insert { .. }, Fault::KeyHeld(0, other)) => other != self.txn,
-            (Command::Insert { .. }, Fault::Duplicate(0, _)) => true,
+            (_, Fault::NoSuchTxn) => !self.is_open,
+            (_, Fault::TxnEnding) => self.is_open && self.is_ending,
+            (Command::Update { .. }, Fault::RowHeld(other))
+            | (Command::Insert { .. }, Fault::KeyHeld(0, other)) => {
+                self.may_write() && other != self.txn && !self.is_denied
+            }
+            (Command::Insert { .. }, Fault::Duplicate(0, _)) => self.may_write(),
             _ => false,
         }
     }
 
     /// Whether a command may be answered so.
-    fn is_answer(&mut self, command: &Command, told: &Result<Answer, Fault>) -> bool {
+    fn is_answer(&mut self, command: &Command, told: &Answer) -> bool {
         match (command, told) {
-            (Command::Begin { .. }, Ok(Answer::Number { number })) => self.begins(*number),
-            (Command::Commit { .. }, Ok(Answer::Number { .. })) => self.commits(),
-            (Command::Undo { .. }, Ok(Answer::Undone { number, left })) => {
-                self.undoes(*number, *left)
+            (Command::Begin { .. }, Answer::Number { number }) => {
+                self.txn = *number;
+                self.is_open = true;
+                self.is_ending = false;
+                self.writes = 0;
+                true
             }
-            (_, Ok(Answer::Written { .. })) => self.writes_one(),
-            (_, Ok(_)) => false,
-            (_, Err(Fault::NoSuchTxn)) => !self.is_open,
-            (_, Err(Fault::TxnEnding)) => self.is_open && self.is_ending,
-            (command, Err(fault)) => self.may_write() && self.may_be_refused(command, *fault),
+            (Command::Commit { .. }, Answer::Number { .. }) => {
+                let was_open = self.may_write();
+                self.is_open = false;
+                was_open
+            }
+            (Command::Undo { .. }, Answer::Undone { number, left }) => self.undoes(*number, *left),
+            (_, Answer::Written { .. }) => {
+                self.writes = self.writes.saturating_add(1);
+                self.may_write() && !self.is_denied
+            }
+            (command, Answer::Refused { fault }) => self.may_be_refused(command, *fault),
+            _ => false,
         }
+    }
+}
+
+/// The transaction that the label of a command is the number of; 0 where it is none.
+fn txn_in(command: &Command) -> u64 {
+    match command {
+        Command::Insert { label, .. }
+        | Command::Update { label, .. }
+        | Command::Delete { label, .. }
+        | Command::Undo { label }
+        | Command::Commit { label } => txn_of(label, u64::MAX),
+        _ => 0,
     }
 }
 
@@ -129,70 +139,77 @@ fn answer<T: Opened, R: Wait>(
     txn: u64,
     command: &Command,
     is_short: bool,
-) -> Result<Answer, Fault> {
+) -> Answer {
     let mut may_be_short = is_short;
     for _ in rt.forever() {
         match session_answer(rt, alloc, session, receipts, txn, command) {
             Err(Fault::Fenced) => thread::yield_now(),
             Err(Fault::Memory) if may_be_short => may_be_short = false,
-            told => return told,
+            Err(fault) => return Answer::Refused { fault },
+            Ok(answer) => return answer,
         }
     }
     unreachable!()
 }
 
-/// Whether each record of a round is answered as it may be.
+/// Whether the session knows the log as far as the newest record that it answers.
+fn has_seen<T: Opened>(session: &Session<'_, T>, answer: &Answer) -> bool {
+    match answer {
+        Answer::Written { number, .. } => session.seen() == *number,
+        Answer::Undone { number, .. } if *number > 0 => session.seen() == *number,
+        _ => true,
+    }
+}
+
+/// Whether each record of a round is answered as it should be.
 fn goes_round<T: Opened, R: Wait>(
     rt: &R,
     alloc: Global,
     session: &mut Session<'_, T>,
     receipts: &mut Vec<Receipt<T>>,
     script: &Script,
-    is_short: bool,
+    program: &Program,
 ) -> bool {
     let mut course = Course {
         txn: 0,
         is_open: false,
         is_ending: false,
         writes: 0,
+        is_denied: program.is_denied,
     };
     for record in &script.commands {
         let command = &record.command;
-        let told = answer(rt, alloc, session, receipts, course.txn, command, is_short);
-        if !course.is_answer(command, &told) {
+        let txn = txn_in(command).max(course.txn);
+        let answer = answer(rt, alloc, session, receipts, txn, command, program.is_short);
+        let is_so = if program.answers.is_empty() {
+            course.is_answer(command, &answer)
+        } else {
+            let told = from_number(program.answers.as_bytes(), record.number);
+            is_printed(record.number, &answer, told)
+        };
+        if !is_so || !has_seen(session, &answer) {
             return false;
         }
     }
     true
 }
 
-fn script_of(alloc: Global, records: &str, round: usize) -> Result<Script, Fault> {
-    let text = round_of(alloc, records, round)?;
-    match Script::parse(alloc, text.as_bytes()) {
-        Ok(script) => Ok(script),
-        Err(_) => Err(Fault::Memory),
-    }
-}
-
-/// The same. What can't be read for want of memory is read once more.
-fn script_again(alloc: Global, records: &str, round: usize) -> Result<Script, Fault> {
-    match script_of(alloc, records, round) {
-        Err(_) => script_of(alloc, records, round),
-        script => script,
-    }
-}
-
+/// The same of the round of that number. What can't be read for want of memory is read once more.
 fn does_round<T: Opened, R: Wait>(
     rt: &R,
     alloc: Global,
     session: &mut Session<'_, T>,
     receipts: &mut Vec<Receipt<T>>,
+    program: &Program,
     records: &str,
     round: usize,
-    is_short: bool,
 ) -> bool {
-    let goes = match script_again(alloc, records, round) {
-        Ok(script) => goes_round(rt, alloc, session, receipts, &script, is_short),
+    let script = match script_of(alloc, records, round) {
+        Err(_) => script_of(alloc, records, round),
+        script => script,
+    };
+    let goes = match script {
+        Ok(script) => goes_round(rt, alloc, session, receipts, &script, program),
         Err(_) => false,
     };
     thread::yield_now();
@@ -207,44 +224,75 @@ fn goes_beside<T: Opened, R: Wait>(
     receipts: &mut Vec<Receipt<T>>,
     program: &Program,
 ) -> bool {
-    if program.beside == 0 {
-        return true;
-    }
     for look in 0..LOOKS {
         if session.pairs(rt, alloc, 0).is_ok() {
             return true;
         }
         if look >= program.beside {
             thread::yield_now();
-        } else if !does_round(rt, alloc, session, receipts, program.script, look, false) {
+        } else if !does_round(rt, alloc, session, receipts, program, program.script, look) {
             return false;
         }
     }
     false
 }
 
+/// Whether the table tells that its pages are being copied, and that entries wait.
+fn is_scanning<T: Opened, R: Wait>(rt: &R, table: &Table<T>) -> bool {
+    let progress = table.progress(rt);
+    progress.phase == Phase::Scanning
+        && progress.pages == 56
+        && progress.scanned > 0
+        && progress.entries > 0
+        && progress.loaded == 0
+}
+
+/// Whether the rounds go well for which somebody asks, until the build has returned.
+fn goes_when_asked<T: Opened, R: Wait>(
+    rt: &R,
+    alloc: Global,
+    table: &Table<T>,
+    session: &mut Session<'_, T>,
+    receipts: &mut Vec<Receipt<T>>,
+    program: &Program,
+    watch: &Watch,
+) -> bool {
+    for _ in rt.forever() {
+        let next = watch.answered.load(Ordering::SeqCst).saturating_add(1);
+        if next <= watch.asked.load(Ordering::SeqCst) {
+            if !does_round(rt, alloc, session, receipts, program, program.behind, 0)
+                || !is_scanning(rt, table)
+            {
+                return false;
+            }
+            watch.answered.store(next, Ordering::SeqCst);
+        } else if watch.is_over.load(Ordering::SeqCst) {
+            return true;
+        } else {
+            thread::yield_now();
+        }
+    }
+    unreachable!()
+}
+
 /// Whether a session does its program.
 pub fn does<T: Opened, R: Wait>(
     rt: &R,
     alloc: Global,
+    table: &Table<T>,
     session: &mut Session<'_, T>,
     receipts: &mut Vec<Receipt<T>>,
     program: &Program,
+    watch: &Watch,
 ) -> bool {
-    if !goes_beside(rt, alloc, session, receipts, program) {
+    if program.is_asked {
+        return goes_when_asked(rt, alloc, table, session, receipts, program, watch);
+    }
+    if program.beside > 0 && !goes_beside(rt, alloc, session, receipts, program) {
         return false;
     }
     for round in 0..program.rounds {
-        let is_short = program.is_short;
-        if !does_round(
-            rt,
-            alloc,
-            session,
-            receipts,
-            program.behind,
-            round,
-            is_short,
-        ) {
+        if !does_round(rt, alloc, session, receipts, program, program.behind, round) {
             return false;
         }
     }

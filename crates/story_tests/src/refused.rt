@@ -1,118 +1,70 @@
 //! What has to hold once an event was refused for want of memory, of which there is enough from then on.
 
+use crate::expected::first_value;
 use crate::made::Made;
 use crate::seen::{Seen, look};
-use crate::spoiled::gives_up;
+use crate::spoiled::{gives_up, is_refused_for};
 use crate::stand::Stand;
-use crate::telling::{Went, on_if};
 use crate::turns::Turn;
 use builder_core::{Event, TableRings};
 use keybytes::Fault;
 use replay::Answer;
 use script::Command;
-use std::alloc::Global;
 
 /// Whether a transaction may begin just where the story lets it. One that begins ends at once, and leaves no record.
 fn is_fenced_so<S: Made, T: TableRings>(stand: &mut Stand<S, T>) -> bool {
     match stand.step(Event::Begin) {
-        Answer::Refused {
-            fault: Fault::Fenced,
-        } => stand.is_fenced,
         Answer::Number { number: txn } => {
             stand.beside = txn;
-            let is_over = matches!(
-                stand.step(Event::Undo { txn }),
-                Answer::Undone { number: 0, left: 0 }
-            );
-            is_over && !stand.is_fenced
+            let told = stand.step(Event::Undo { txn });
+            !stand.is_fenced && matches!(told, Answer::Undone { number: 0, left: 0 })
         }
-        _ => false,
+        told => stand.is_fenced && is_refused_for(&told, Fault::Fenced),
     }
 }
 
-/// The event has changed nothing, and is asked for again.
-fn is_unchanged<S: Made, T: TableRings>(
-    stand: &mut Stand<S, T>,
-    alloc: Global,
-    turn: &Turn<'_>,
-    before: &Seen,
-) -> Result<bool, Fault> {
-    let now = look(stand, alloc)?;
-    if !now.is(before) || !is_fenced_so(stand) {
-        return Ok(false);
-    }
-    Ok(turn.is_told(&stand.answer(&turn.command)))
-}
-
-/// Whether an apply that was refused goes on with the rest, or a switch as the story tells it.
+/// Whether the event that is asked for again goes on with the rest, if it is an apply that was refused; else is
+/// answered as the story tells it.
 fn is_rest(again: &Answer, turn: &Turn<'_>) -> bool {
     match again {
-        Answer::Number { number } => 0 < *number && *number <= turn.value(),
+        Answer::Number { number } if matches!(turn.command, Command::Apply { .. }) => {
+            0 < *number && *number <= first_value(turn.told)
+        }
         other => turn.is_told(other),
     }
 }
 
-/// The event has applied some entries at most, and is asked for again.
-fn is_half_done<S: Made, T: TableRings>(
-    stand: &mut Stand<S, T>,
-    alloc: Global,
-    turn: &Turn<'_>,
-    before: &Seen,
-) -> Result<bool, Fault> {
-    let now = look(stand, alloc)?;
-    if !now.is_behind(before) || !is_fenced_so(stand) {
-        return Ok(false);
-    }
-    Ok(is_rest(&stand.answer(&turn.command), turn))
-}
-
-/// The event has spoiled the build.
-fn is_spoiled<S: Made, T: TableRings>(
-    stand: &mut Stand<S, T>,
-    alloc: Global,
-    before: &Seen,
-) -> Result<bool, Fault> {
-    let now = look(stand, alloc)?;
-    Ok(now.is(before) && is_fenced_so(stand) && gives_up(stand, Fault::Memory))
-}
-
-/// What is left once memory was wanted.
+/// Whether all is as it was before, where the build may be spoiled or some entries may be applied, and a story goes on
+/// so once memory was wanted.
 fn goes_on<S: Made, T: TableRings>(
     stand: &mut Stand<S, T>,
-    alloc: Global,
     turn: &Turn<'_>,
     before: &Seen,
-) -> Result<Went, Fault> {
+) -> bool {
+    let now = look(stand);
+    let is_so = match turn.command {
+        Command::Apply { .. } | Command::Switch => now.is_behind(before),
+        _ => now.is(before),
+    };
+    if !is_so || !is_fenced_so(stand) {
+        return false;
+    }
     match turn.command {
         Command::Digest { .. } | Command::Seal { .. } | Command::Load { .. } => {
-            if is_spoiled(stand, alloc, before)? {
-                Ok(Went::Ended)
-            } else {
-                Ok(Went::Otherwise)
-            }
+            stand.is_over = true;
+            gives_up(stand, Fault::Memory)
         }
-        Command::Apply { .. } | Command::Switch => {
-            Ok(on_if(is_half_done(stand, alloc, turn, before)?))
-        }
-        _ => Ok(on_if(is_unchanged(stand, alloc, turn, before)?)),
+        _ => is_rest(&stand.answer(turn.command), turn),
     }
 }
 
-/// Tells a record of a story in which memory was wanted so often before, and may be wanted once.
-pub fn goes_where_short<S: Made, T: TableRings>(
-    stand: &mut Stand<S, T>,
-    alloc: Global,
-    turn: &Turn<'_>,
-    refusals: &mut u32,
-) -> Result<Went, Fault> {
-    let before = look(stand, alloc)?;
-    match stand.answer(&turn.command) {
-        Answer::Refused {
-            fault: Fault::Memory,
-        } if *refusals == 0 => {
-            *refusals = 1;
-            goes_on(stand, alloc, turn, &before)
-        }
-        answer => Ok(on_if(turn.is_told(&answer))),
+/// Tells a record of a story in which memory may be wanted once.
+pub fn goes_where_short<S: Made, T: TableRings>(stand: &mut Stand<S, T>, turn: &Turn<'_>) -> bool {
+    let before = look(stand);
+    let answer = stand.answer(turn.command);
+    if stand.is_broken || !is_refused_for(&answer, Fault::Memory) {
+        return turn.is_told(&answer);
     }
+    stand.is_broken = true;
+    goes_on(stand, turn, &before)
 }

@@ -2,7 +2,7 @@
 
 use crate::made::Made;
 use crate::stand::Stand;
-use builder_core::{Core, Entry, Event, Op, ReadyIndex, TableRings};
+use builder_core::{Core, Event, Op, TableRings};
 use keybytes::{Cell, Fault, Key, Rid};
 use replay::Answer;
 use run_spool::Spool;
@@ -25,154 +25,150 @@ const NOWHERE: Rid = Rid {
 pub struct Seen {
     /// One word for all but the side-files: the records of the log, the pages, the open transactions with writes that
     /// stand; which transactions are open, which of them are being undone, and the newest write of each that stands;
-    /// the rows; what the ready indexes are on, with their pairs; and whether a build runs.
+    /// the rows; what the ready indexes are on, with their pairs; and whether a build runs. Lists of the same length
+    /// that differ in one word have different sums.
     word: u64,
     /// A word for each entry of the side-files of two indexes that wasn't fed yet.
     first: Vec<u64>,
     second: Vec<u64>,
+    /// Whether there was memory for all that.
+    is_whole: bool,
 }
 
 impl Seen {
     /// Whether all is as it was.
     pub fn is(&self, before: &Seen) -> bool {
-        self.word == before.word && self.first == before.first && self.second == before.second
+        self.is_behind(before)
+            && self.first.len() == before.first.len()
+            && self.second.len() == before.second.len()
     }
 
     /// The same, but for entries at the front of a side-file, which may be gone.
     pub fn is_behind(&self, before: &Seen) -> bool {
-        self.word == before.word
+        self.is_whole
+            && before.is_whole
+            && self.word == before.word
             && before.first.ends_with(self.first.as_slice())
             && before.second.ends_with(self.second.as_slice())
     }
+
+    fn add(&mut self, word: u64) {
+        self.word = with_word(self.word, word);
+    }
 }
 
-/// A sum of words in order: lists of the same length that differ in one word have different sums.
-#[derive(Drop)]
-struct Sum(u64);
+/// A sum and a word more.
+fn with_word(sum: u64, word: u64) -> u64 {
+    (sum ^ word).wrapping_mul(0x100_0000_01b3)
+}
 
-impl Sum {
-    fn add(&mut self, word: u64) {
-        self.0 = (self.0 ^ word).wrapping_mul(0x100_0000_01b3);
+fn with_pair(sum: u64, key: &Key, rid: Rid) -> u64 {
+    let mut sum = sum;
+    for byte in key.bytes() {
+        sum = with_word(sum, *byte as u64);
     }
-
-    fn add_rid(&mut self, rid: Rid) {
-        self.add(rid.page as u64);
-        self.add(rid.slot as u64);
-    }
-
-    fn add_key(&mut self, key: &Key) {
-        for byte in key.bytes() {
-            self.add(*byte as u64);
-        }
-    }
+    with_word(with_word(sum, rid.page as u64), rid.slot as u64)
 }
 
 /// Why a transaction can't take away a row that isn't there: it isn't open, or is being undone; or just for that.
-fn add_txns<S: Made, T: TableRings>(sum: &mut Sum, stand: &mut Stand<S, T>) {
+fn add_txns<S: Made, T: TableRings>(seen: &mut Seen, stand: &mut Stand<S, T>) {
     for txn in 1..=TXNS {
         let rid = NOWHERE;
         if let Answer::Refused { fault } = stand.step(Event::Delete { txn, rid }) {
-            sum.add(fault.number() as u64);
+            seen.add(fault.number() as u64);
         }
-        sum.add(stand.core().live().newest(txn).unwrap_or(0) as u64);
+        seen.add(stand.core.live().newest(txn).unwrap_or(0) as u64);
     }
 }
 
 /// Adds the row at a RID, or that there is none.
-fn add_row<S: Made, T: TableRings>(
-    sum: &mut Sum,
-    stand: &mut Stand<S, T>,
-    rid: Rid,
-) -> Result<(), Fault> {
-    match stand.row_at(rid) {
+fn add_row<S: Spool, T: TableRings>(seen: &mut Seen, core: &mut Core<S, T>, rid: Rid) {
+    match core.get(rid) {
         Ok(row) => {
             for cell in row.cells() {
                 if let Cell::Int(number) = cell {
-                    sum.add((*number).cast_unsigned());
+                    seen.add((*number).cast_unsigned());
                 }
             }
         }
-        Err(Fault::Memory) => return Err(Fault::Memory),
-        Err(fault) => sum.add(fault.number() as u64),
-    }
-    Ok(())
-}
-
-fn add_rows<S: Made, T: TableRings>(sum: &mut Sum, stand: &mut Stand<S, T>) -> Result<(), Fault> {
-    for page in 0..stand.core().live().heap().pages() {
-        for slot in 0..SLOTS {
-            add_row(sum, stand, Rid { page, slot })?;
+        Err(fault) => {
+            seen.is_whole &= fault != Fault::Memory;
+            seen.add(fault.number() as u64);
         }
     }
-    Ok(())
 }
 
-fn add_index(sum: &mut Sum, index: &ReadyIndex) {
+fn add_rows<S: Spool, T: TableRings>(seen: &mut Seen, core: &mut Core<S, T>) {
+    for page in 0..core.live().heap().pages() {
+        for slot in 0..SLOTS {
+            add_row(seen, core, Rid { page, slot });
+        }
+    }
+}
+
+fn add_index<S: Spool, T: TableRings>(seen: &mut Seen, core: &Core<S, T>, number: usize) {
+    let Ok(index) = core.ready(number) else {
+        return;
+    };
     for column in index.spec().columns() {
-        sum.add(column.column as u64);
-        sum.add(u64::from(column.descending));
+        seen.add(column.column as u64);
+        seen.add(u64::from(column.descending));
     }
     for pair in index.tree().iter() {
-        sum.add_key(&pair.key);
-        sum.add_rid(pair.rid);
+        seen.word = with_pair(seen.word, &pair.key, pair.rid);
     }
 }
 
-fn add_core<S: Spool, T: TableRings>(sum: &mut Sum, core: &Core<S, T>) {
+fn add_core<S: Spool, T: TableRings>(seen: &mut Seen, core: &Core<S, T>) {
     let heap = core.live().heap();
-    sum.add(heap.records() as u64);
-    sum.add(heap.pages() as u64);
-    sum.add(heap.busy() as u64);
-    sum.add(u64::from(core.is_building()));
+    seen.add(heap.records() as u64);
+    seen.add(heap.pages() as u64);
+    seen.add(heap.busy() as u64);
+    seen.add(u64::from(core.is_building()));
     for number in 0..core.live().ready().len() {
-        if let Ok(index) = core.ready(number) {
-            add_index(sum, index);
-        }
+        add_index(seen, core, number);
     }
 }
 
-/// One word for an entry.
-fn word_of(entry: &Entry) -> u64 {
-    let mut sum = Sum(entry.build);
-    sum.add(u64::from(entry.op == Op::Insert));
-    sum.add_key(&entry.key);
-    sum.add_rid(entry.rid);
-    sum.0
-}
-
-fn words<S: Spool, T: TableRings>(
+/// Keeps a word for each entry of the index; whether there was memory for them.
+fn are_kept<S: Spool, T: TableRings>(
+    words: &mut Vec<u64>,
     core: &Core<S, T>,
-    alloc: Global,
     index: usize,
-) -> Result<Vec<u64>, Fault> {
-    let mut words = Vec::new(alloc);
-    if let Ok(entries) = core.side(index) {
-        for entry in entries {
-            words.push(word_of(entry))?;
-        }
+) -> bool {
+    let Ok(entries) = core.side(index) else {
+        return true;
+    };
+    let mut are_kept = true;
+    for entry in entries {
+        let sum = with_word(entry.build, u64::from(entry.op == Op::Insert));
+        are_kept &= words.push(with_pair(sum, &entry.key, entry.rid)).is_ok();
     }
-    Ok(words)
+    are_kept
 }
 
-fn look_once<S: Made, T: TableRings>(
-    stand: &mut Stand<S, T>,
-    alloc: Global,
-) -> Result<Seen, Fault> {
-    let mut sum = Sum(0xcbf2_9ce4_8422_2325);
-    add_rows(&mut sum, stand)?;
-    add_txns(&mut sum, stand);
-    add_core(&mut sum, stand.core());
-    Ok(Seen {
-        word: sum.0,
-        first: words(stand.core(), alloc, 0)?,
-        second: words(stand.core(), alloc, 1)?,
-    })
+fn look_once<S: Made, T: TableRings>(stand: &mut Stand<S, T>, alloc: Global) -> Seen {
+    let mut seen = Seen {
+        word: 0xcbf2_9ce4_8422_2325,
+        first: Vec::new(alloc),
+        second: Vec::new(alloc),
+        is_whole: true,
+    };
+    add_rows(&mut seen, &mut stand.core);
+    add_txns(&mut seen, stand);
+    add_core(&mut seen, &stand.core);
+    seen.is_whole &= are_kept(&mut seen.first, &stand.core, 0);
+    seen.is_whole &= are_kept(&mut seen.second, &stand.core, 1);
+    seen
 }
 
 /// How all stands now. What is refused for want of memory is looked at once more.
-pub fn look<S: Made, T: TableRings>(stand: &mut Stand<S, T>, alloc: Global) -> Result<Seen, Fault> {
-    match look_once(stand, alloc) {
-        Err(_) => look_once(stand, alloc),
-        told => told,
+pub fn look<S: Made, T: TableRings>(stand: &mut Stand<S, T>) -> Seen {
+    let alloc = stand.alloc;
+    let seen = look_once(stand, alloc);
+    if seen.is_whole {
+        seen
+    } else {
+        look_once(stand, alloc)
     }
 }

@@ -1,8 +1,7 @@
 //! Commands, done by a session on a shared table.
 
 use crate::events::row;
-use crate::listing::pair_lines;
-use builder_core::Pair;
+use crate::listing::listed;
 use crew::{Opened, Receipt, Session, UndoStep};
 use heap_log::LogRec;
 use keybytes::Fault;
@@ -11,8 +10,12 @@ use script::Command;
 use std::alloc::Global;
 use std::sync::Wait;
 
-/// Keeps a receipt, and answers what it tells.
-fn kept<T: Opened>(receipts: &mut Vec<Receipt<T>>, receipt: Receipt<T>) -> Result<Answer, Fault> {
+/// Keeps the receipt of a record, for which there is room, and answers what it tells.
+fn kept<T: Opened>(
+    receipts: &mut Vec<Receipt<T>>,
+    told: Result<Receipt<T>, Fault>,
+) -> Result<Answer, Fault> {
+    let receipt = told?;
     let number = receipt.number();
     let answer = match receipt.rec() {
         LogRec::Write { rid, .. } => Answer::Written { number, rid: *rid },
@@ -24,24 +27,21 @@ fn kept<T: Opened>(receipts: &mut Vec<Receipt<T>>, receipt: Receipt<T>) -> Resul
     Ok(answer)
 }
 
-/// Keeps the receipt of a step of a rollback, if it wrote a record.
-fn undone<T: Opened>(receipts: &mut Vec<Receipt<T>>, step: UndoStep<T>) -> Result<Answer, Fault> {
-    let UndoStep { receipt, left } = step;
-    let Some(receipt) = receipt else {
-        return Ok(Answer::Undone { number: 0, left });
-    };
-    let number = receipt.number();
-    receipts.push(receipt)?;
+/// The same of a step of a rollback, which may have written no record.
+fn undone<T: Opened>(
+    receipts: &mut Vec<Receipt<T>>,
+    told: Result<UndoStep<T>, Fault>,
+) -> Result<Answer, Fault> {
+    let UndoStep { receipt, left } = told?;
+    let mut number = 0;
+    if let Some(receipt) = receipt {
+        number = receipt.number();
+        receipts.push(receipt)?;
+    }
     Ok(Answer::Undone { number, left })
 }
 
-pub fn listed(alloc: Global, pairs: &[Pair]) -> Result<Answer, Fault> {
-    Ok(Answer::Pairs {
-        lines: pair_lines(alloc, pairs)?,
-    })
-}
-
-/// What a session answers to a command of a transaction.
+/// What a session answers to a command of a transaction. The room for its receipt is made first.
 pub fn session_answer<T: Opened, R: Wait>(
     rt: &R,
     alloc: Global,
@@ -50,25 +50,23 @@ pub fn session_answer<T: Opened, R: Wait>(
     txn: u64,
     command: &Command,
 ) -> Result<Answer, Fault> {
-    match command {
-        Command::Begin { .. } => Ok(Answer::Number {
-            number: session.begin(rt)?,
-        }),
-        Command::Insert { cells, .. } => {
-            let row = row(alloc, cells)?;
-            kept(receipts, session.insert(rt, txn, row)?)
+    receipts.reserve(1)?;
+    let told = match command {
+        Command::Begin { .. } => {
+            let number = session.begin(rt)?;
+            return Ok(Answer::Number { number });
         }
-        Command::Update { rid, cells, .. } => {
-            let row = row(alloc, cells)?;
-            kept(receipts, session.update(rt, txn, *rid, row)?)
+        Command::Undo { .. } => return undone(receipts, session.undo(rt, txn)),
+        Command::Get { rid } => {
+            let row = session.get(rt, *rid)?;
+            return Ok(Answer::Cells { row });
         }
-        Command::Delete { rid, .. } => kept(receipts, session.delete(rt, txn, *rid)?),
-        Command::Commit { .. } => kept(receipts, session.commit(rt, txn)?),
-        Command::Undo { .. } => undone(receipts, session.undo(rt, txn)?),
-        Command::Get { rid } => Ok(Answer::Cells {
-            row: session.get(rt, *rid)?,
-        }),
-        Command::Pairs { number } => listed(alloc, &session.pairs(rt, alloc, *number)?.1),
+        Command::Pairs { number } => return listed(alloc, &session.pairs(rt, alloc, *number)?.1),
+        Command::Insert { cells, .. } => session.insert(rt, txn, row(alloc, cells)?),
+        Command::Update { rid, cells, .. } => session.update(rt, txn, *rid, row(alloc, cells)?),
+        Command::Delete { rid, .. } => session.delete(rt, txn, *rid),
+        Command::Commit { .. } => session.commit(rt, txn),
         _ => Err(Fault::BadScript(0)),
-    }
+    };
+    kept(receipts, told)
 }

@@ -1,26 +1,26 @@
 //! A core with its spools, and what a story has made of it so far.
 
 use crate::events::{event, key_spec};
-use crate::listing::{entry_lines, pair_lines, shared_lines};
+use crate::listing::{listed, listed_entries, shared_lines};
 use crate::made::{Made, come_back};
-use crate::place::Place;
-use crate::story::Stock;
+use crate::place::Faults;
+use crate::story::{Stock, stock_of};
 use builder_core::{Core, Ends, Event, Live, Pair, Reply, TableRings};
 use heap_log::{Outcome, Verdicts};
-use keybytes::{Fault, KeySpec, Rid, Row};
+use keybytes::{Fault, KeySpec};
 use replay::Answer;
 use run_spool::Spool;
-use script::{Command, Spec, Start};
+use script::{Command, Start};
 use std::alloc::Global;
 
 /// A table with its core. It notes what the answers mean for the build, the fence and the ready indexes.
 pub struct Stand<S: Spool, T: TableRings> {
-    alloc: Global,
-    core: Core<S, T>,
+    pub alloc: Global,
+    pub core: Core<S, T>,
     /// The spools that the core has.
     stock: Stock,
-    /// Where one of a build's spools fails.
-    place: Option<Place>,
+    /// What comes to the spools of its builds.
+    faults: Faults,
     /// Whether all spools came back that others were put in the place of.
     are_back: bool,
     pub is_running: bool,
@@ -29,32 +29,10 @@ pub struct Stand<S: Spool, T: TableRings> {
     pub ready: usize,
     /// The number of the transaction that was begun beside those of the story, from which on these have a number more.
     pub beside: u64,
-}
-
-/// How many of the indexes are ready.
-fn ready_in(verdicts: &[Outcome]) -> usize {
-    let mut ready: usize = 0;
-    for verdict in verdicts {
-        if let Outcome::Ready(_) = verdict {
-            ready = ready.saturating_add(1);
-        }
-    }
-    ready
-}
-
-fn counted(count: usize) -> Answer {
-    Answer::Number {
-        number: count as u64,
-    }
-}
-
-/// How many pages the spools have leased.
-fn leased_by<S: Spool>(spools: &[S]) -> usize {
-    let mut leased: usize = 0;
-    for spool in spools {
-        leased = leased.saturating_add(spool.leased());
-    }
-    leased
+    /// Whether a fault came, or memory was wanted, or a build that ran was stopped.
+    pub is_broken: bool,
+    /// Whether a build was spoiled and given up, so that the story ends.
+    pub is_over: bool,
 }
 
 impl<S: Made, T: TableRings> Stand<S, T> {
@@ -65,33 +43,21 @@ impl<S: Made, T: TableRings> Stand<S, T> {
         ends: Ends<T>,
         spools: Vec<S>,
         stock: Stock,
-        place: Option<Place>,
+        faults: Faults,
     ) -> Stand<S, T> {
         Stand {
             alloc,
             core: Core::new(live, ends, spools),
             stock,
-            place,
+            faults,
             are_back: true,
             is_running: false,
             is_fenced: false,
             ready: 0,
             beside: u64::MAX,
+            is_broken: false,
+            is_over: false,
         }
-    }
-
-    pub fn core(&self) -> &Core<S, T> {
-        &self.core
-    }
-
-    /// The row at a RID.
-    pub fn row_at(&mut self, rid: Rid) -> Result<Row, Fault> {
-        self.core.get(rid)
-    }
-
-    /// How many pages the spools have leased that were handed in.
-    pub fn leased(&self) -> usize {
-        leased_by(self.core.spools())
     }
 
     /// Whether the core is as the answers say.
@@ -111,28 +77,25 @@ impl<S: Made, T: TableRings> Stand<S, T> {
 
     fn does(&mut self, command: &Command) -> Result<Answer, Fault> {
         match command {
-            Command::Get { rid } => Ok(Answer::Cells {
-                row: self.core.get(*rid)?,
-            }),
-            Command::Side { index } => Ok(Answer::Entries {
-                lines: entry_lines(self.alloc, self.core.side(*index)?)?,
-            }),
-            Command::Pairs { number } => self.pairs(*number),
-            Command::Rest { spec } => self.rest(spec),
-            Command::Start(start) => {
-                self.supply(start)?;
-                self.happens(command)
+            Command::Get { rid } => {
+                return Ok(Answer::Cells {
+                    row: self.core.get(*rid)?,
+                });
             }
-            _ => self.happens(command),
+            Command::Side { index } => {
+                return listed_entries(self.alloc, self.core.side(*index)?);
+            }
+            Command::Pairs { number } => return listed(self.alloc, &self.ready_pairs(*number)?),
+            Command::Rest { spec } => {
+                let spec = key_spec(self.alloc, self.core.live().heap().schema(), spec)?;
+                return listed(self.alloc, &self.rest_of(&spec)?);
+            }
+            Command::Start(start) => self.supply(start)?,
+            _ => {}
         }
-    }
-
-    fn happens(&mut self, command: &Command) -> Result<Answer, Fault> {
         let schema = self.core.live().heap().schema();
-        match event(self.alloc, schema, command, self.beside)? {
-            Some(event) => Ok(self.step(event)),
-            None => Err(Fault::BadScript(0)),
-        }
+        let event = event(self.alloc, schema, command, self.beside)?;
+        Ok(self.step(event))
     }
 
     /// New spools for a start, which has a quota, where no build runs.
@@ -140,14 +103,11 @@ impl<S: Made, T: TableRings> Stand<S, T> {
         if start.quota == 0 || self.core.is_building() {
             return Ok(());
         }
-        let stock = Stock {
-            quota: start.quota.min(1_024) as u32,
-            count: start.workers.saturating_mul(start.specs.len()),
-            is_used: false,
-        };
-        let spools = S::made(self.alloc, stock, self.place)?;
-        let others = self.core.exchange_spools(spools);
-        self.are_back = come_back(others, self.stock) && self.are_back;
+        let mut stock = stock_of(start);
+        let others = self
+            .core
+            .exchange_spools(S::made(self.alloc, &mut stock, &self.faults)?);
+        self.are_back &= come_back(others, &self.stock);
         self.stock = stock;
         Ok(())
     }
@@ -168,20 +128,26 @@ impl<S: Made, T: TableRings> Stand<S, T> {
             Reply::Undone { number, left } => Answer::Undone { number, left },
             Reply::Started { pages } => {
                 self.is_running = true;
-                counted(pages as usize)
+                Answer::Number {
+                    number: u64::from(pages),
+                }
             }
-            Reply::Scanned { page } => counted(page as usize),
+            Reply::Scanned { page } => Answer::Number {
+                number: u64::from(page),
+            },
             Reply::Committed { number: count }
             | Reply::Digested { images: count }
             | Reply::Sealed { images: count }
             | Reply::Loaded { pairs: count }
             | Reply::Fed { entries: count }
-            | Reply::Applied { entries: count } => counted(count),
+            | Reply::Applied { entries: count } => Answer::Number {
+                number: count as u64,
+            },
+            Reply::Switched { number, verdicts } => self.switched(number, verdicts),
             Reply::FenceSet => {
                 self.is_fenced = true;
                 Answer::Done
             }
-            Reply::Switched { number, verdicts } => self.switched(number, verdicts),
             Reply::Abandoned => {
                 self.ended();
                 Answer::Abandoned {
@@ -194,6 +160,15 @@ impl<S: Made, T: TableRings> Stand<S, T> {
         }
     }
 
+    /// How many pages the spools have leased that were handed in.
+    fn leased(&self) -> usize {
+        let mut leased: usize = 0;
+        for spool in self.core.spools() {
+            leased = leased.saturating_add(spool.leased());
+        }
+        leased
+    }
+
     /// No build runs any more.
     pub fn ended(&mut self) {
         self.is_running = false;
@@ -202,8 +177,11 @@ impl<S: Made, T: TableRings> Stand<S, T> {
 
     fn switched(&mut self, number: usize, verdicts: Verdicts) -> Answer {
         self.ended();
-        let ready = ready_in(verdicts.as_slice());
-        self.ready = self.ready.saturating_add(ready);
+        for verdict in verdicts.as_slice() {
+            if let Outcome::Ready(_) = verdict {
+                self.ready = self.ready.saturating_add(1);
+            }
+        }
         let pages = self.leased();
         match shared_lines(self.alloc, verdicts.as_slice()) {
             Ok(shared) if !shared.is_empty() => Answer::SomeRefused {
@@ -222,11 +200,7 @@ impl<S: Made, T: TableRings> Stand<S, T> {
 
     /// A transaction as the story numbers it.
     fn txn_told(&self, txn: u64) -> u64 {
-        if txn > self.beside {
-            txn.saturating_sub(1)
-        } else {
-            txn
-        }
+        txn.saturating_sub(u64::from(txn > self.beside))
     }
 
     fn fault_told(&self, fault: Fault) -> Fault {
@@ -244,30 +218,14 @@ impl<S: Made, T: TableRings> Stand<S, T> {
         self.core.rest(spec)
     }
 
-    fn rest(&mut self, spec: &Spec) -> Result<Answer, Fault> {
-        let spec = key_spec(self.alloc, self.core.live().heap().schema(), spec)?;
-        let pairs = self.rest_of(&spec)?;
-        Ok(Answer::Pairs {
-            lines: pair_lines(self.alloc, &pairs)?,
-        })
-    }
-
     /// The pairs of a ready index, if they are those of the table's rows.
     fn ready_pairs(&mut self, number: usize) -> Result<Vec<Pair>, Fault> {
         let spec = self.core.ready(number)?.spec().clone()?;
         let pairs = self.rest_of(&spec)?;
-        if self.core.ready(number)?.tree().iter().eq(pairs.as_slice()) {
-            Ok(pairs)
-        } else {
-            Err(Fault::BadCount)
+        match self.core.ready(number) {
+            Ok(index) if index.tree().iter().eq(pairs.as_slice()) => Ok(pairs),
+            _ => Err(Fault::BadCount),
         }
-    }
-
-    fn pairs(&mut self, number: usize) -> Result<Answer, Fault> {
-        let pairs = self.ready_pairs(number)?;
-        Ok(Answer::Pairs {
-            lines: pair_lines(self.alloc, &pairs)?,
-        })
     }
 
     /// Whether each ready index has the pairs of the table's rows.
@@ -286,14 +244,16 @@ impl<S: Made, T: TableRings> Stand<S, T> {
             alloc: _,
             core,
             stock,
-            place: _,
+            faults: _,
             are_back,
             is_running: _,
             is_fenced: _,
             ready: _,
             beside: _,
+            is_broken: _,
+            is_over: _,
         } = self;
         let (_, _, spools) = core.into_live();
-        come_back(spools, stock) && are_back
+        come_back(spools, &stock) && are_back
     }
 }

@@ -16,8 +16,7 @@ mod uniques;
 mod workers;
 
 use crate::story::Story;
-use crate::tasks::{Other, Task, otherwise};
-use crate::telling::Mode;
+use crate::tasks::{Task, otherwise};
 use keybytes::Fault;
 use std::alloc::Global;
 use std::process::Abort;
@@ -43,160 +42,132 @@ fn stories(number: usize) -> &'static [Story] {
     }
 }
 
-/// Whether a story is for that.
-fn is_for(story: &Story, task: Task) -> bool {
+/// Whether a story is for that; where a name is given, whether it is the story's.
+fn is_for(story: &Story, task: &Task, name: &str) -> bool {
+    if !name.is_empty() {
+        return story.name == name;
+    }
     match task {
-        Task::Tell(Mode::Short) => story.is_short,
-        Task::Tell(_) => true,
-        Task::List(false) => story.is_list,
-        Task::List(true) => story.is_list && story.is_short,
+        Task::Tell => true,
+        Task::Short => story.is_short,
+        Task::List => story.is_list,
+        Task::ShortList => story.is_list && story.is_short,
         Task::Replay => story.is_replayed,
-        Task::Faults | Task::Stops => !story.pairs.is_empty(),
+        Task::Faults | Task::Stops => story.faults.0 > 0,
     }
 }
 
-/// The story that goes otherwise, and where; or why none could be told.
-type Found = Result<Option<(&'static str, [usize; 4])>, Fault>;
+/// How many stories were told, and which of them goes otherwise, and where; or why none could be told.
+type Found = Result<(usize, Option<(&'static str, (usize, usize))>), Fault>;
 
-fn found_in(alloc: Global, story: &'static Story, task: Task) -> Found {
-    let other = otherwise(alloc, story, task)?;
-    Ok(other.map(|at| (story.name, at)))
-}
-
-/// The first of these stories that goes otherwise.
-fn first_of(alloc: Global, stories: &'static [Story], task: Task) -> Found {
-    for story in stories {
-        if !is_for(story, task) {
-            continue;
-        }
-        let found = found_in(alloc, story, task)?;
-        if found.is_some() {
-            return Ok(found);
-        }
-    }
-    Ok(None)
-}
-
-/// The same of all files.
-fn first_otherwise(alloc: Global, task: Task) -> Found {
-    for number in 0..COUNT {
-        let found = first_of(alloc, stories(number), task)?;
-        if found.is_some() {
-            return Ok(found);
-        }
-    }
-    Ok(None)
-}
-
-/// The same of the story with that name, where memory may run out. One that wasn't begun for want of memory is told
-/// again.
-fn one_where_short(alloc: Global, name: &str) -> Found {
+/// The first story that goes otherwise, of all or of that name. One that can't be told for want of memory is told again.
+fn first_otherwise(alloc: Global, task: &Task, name: &str) -> Found {
+    let mut told: usize = 0;
     for number in 0..COUNT {
         for story in stories(number) {
-            if story.name == name {
-                return match found_in(alloc, story, SHORT) {
-                    Err(_) => found_in(alloc, story, SHORT),
-                    found => found,
-                };
+            if !is_for(story, task, name) {
+                continue;
             }
+            let other = match otherwise(alloc, story, task) {
+                Err(_) => otherwise(alloc, story, task)?,
+                Ok(other) => other,
+            };
+            if let Some(at) = other {
+                return Ok((told, Some((story.name, at))));
+            }
+            told = told.saturating_add(1);
         }
     }
-    Err(Fault::BadCount)
+    Ok((told, None))
 }
 
-const SHORT: Task = Task::Tell(Mode::Short);
-
-/// Asserts that nothing was found otherwise.
-fn expect_none<R: Abort>(rt: &R, found: Found) {
-    assert_eq!(rt; found, Ok(None));
+/// Asserts that so many stories go as they should, or the one of that name.
+fn expect<R: Abort>(rt: &R, alloc: Global, task: &Task, name: &str, count: usize) {
+    assert_eq!(rt; first_otherwise(alloc, task, name), Ok((count, None)));
 }
 
 #[test]
 fn are_told_as_they_should_be(rt: HostRuntime) {
-    expect_none(&rt, first_otherwise(rt.alloc(), Task::Tell(Mode::Plain)));
+    expect(&rt, rt.alloc(), &Task::Tell, "", 48);
 }
 
 #[test]
 fn are_listed(rt: HostRuntime) {
-    expect_none(&rt, first_otherwise(rt.alloc(), Task::List(false)));
+    expect(&rt, rt.alloc(), &Task::List, "", 6);
 }
 
 #[test]
 fn are_replayed(rt: HostRuntime) {
-    expect_none(&rt, first_otherwise(rt.alloc(), Task::Replay));
+    expect(&rt, rt.alloc(), &Task::Replay, "", 43);
 }
 
 /// Wherever a push or a read is refused the build is spoiled and nothing is lost.
 #[test]
 fn each_fault_of_a_spool_spoils_the_build(rt: HostRuntime) {
-    expect_none(&rt, first_otherwise(rt.alloc(), Task::Faults));
+    expect(&rt, rt.alloc(), &Task::Faults, "", 4);
 }
 
 /// Wherever a story is stopped, an abandon is refused exactly where no build runs, and all spools and pages come back.
 #[test]
 fn a_build_can_be_abandoned_anywhere(rt: HostRuntime) {
-    expect_none(&rt, first_otherwise(rt.alloc(), Task::Stops));
+    expect(&rt, rt.alloc(), &Task::Stops, "", 4);
 }
 
 /// `rt try --test --fail-alloc N` for each N shows that no allocation that fails gives a wrong answer or loses a page.
 #[test]
 fn are_told_where_memory_may_run_out(rt: HostRuntime) {
-    let found = match first_otherwise(rt.alloc(), SHORT) {
-        Err(_) => first_otherwise(rt.alloc(), SHORT),
-        found => found,
-    };
-    expect_none(&rt, found);
+    expect(&rt, rt.alloc(), &Task::Short, "", 14);
 }
 
 #[test]
 fn are_listed_where_memory_may_run_out(rt: HostRuntime) {
-    match first_otherwise(rt.alloc(), Task::List(true)) {
-        Err(Fault::Memory) => {}
-        found => expect_none(&rt, found),
-    }
+    expect(&rt, rt.alloc(), &Task::ShortList, "", 4);
 }
 
 // Each of those below is run by itself, with each of its allocations refused in turn.
 
 #[test]
 fn inserted_ahead_where_memory_may_run_out(rt: HostRuntime) {
-    expect_none(&rt, one_where_short(rt.alloc(), "inserted ahead"));
+    expect(&rt, rt.alloc(), &Task::Short, "inserted ahead", 1);
 }
 
 #[test]
 fn shared_for_a_while_where_memory_may_run_out(rt: HostRuntime) {
-    expect_none(&rt, one_where_short(rt.alloc(), "shared for a while"));
+    expect(&rt, rt.alloc(), &Task::Short, "shared for a while", 1);
 }
 
 #[test]
 fn many_left_where_memory_may_run_out(rt: HostRuntime) {
-    expect_none(&rt, one_where_short(rt.alloc(), "many entries left"));
+    expect(&rt, rt.alloc(), &Task::Short, "many entries left", 1);
 }
 
 #[test]
 fn undone_after_where_memory_may_run_out(rt: HostRuntime) {
-    expect_none(&rt, one_where_short(rt.alloc(), "undone after the switch"));
+    expect(&rt, rt.alloc(), &Task::Short, "undone after the switch", 1);
 }
 
 #[test]
 fn two_indexes_where_memory_may_run_out(rt: HostRuntime) {
-    expect_none(&rt, one_where_short(rt.alloc(), "two indexes"));
+    expect(&rt, rt.alloc(), &Task::Short, "two indexes", 1);
 }
 
 #[test]
 fn three_writes_back_where_memory_may_run_out(rt: HostRuntime) {
-    expect_none(&rt, one_where_short(rt.alloc(), "three writes back"));
+    expect(&rt, rt.alloc(), &Task::Short, "three writes back", 1);
 }
 
 #[test]
 fn ring_full_where_memory_may_run_out(rt: HostRuntime) {
-    expect_none(&rt, one_where_short(rt.alloc(), "a ring that is full"));
+    expect(&rt, rt.alloc(), &Task::Short, "a ring that is full", 1);
 }
 
 #[test]
 fn grows_behind_where_memory_may_run_out(rt: HostRuntime) {
-    expect_none(
+    expect(
         &rt,
-        one_where_short(rt.alloc(), "a tree that grows behind the scan"),
+        rt.alloc(),
+        &Task::Short,
+        "a tree that grows behind the scan",
+        1,
     );
 }

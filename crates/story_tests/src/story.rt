@@ -1,23 +1,37 @@
 //! What happens on a table, as texts: a script, and what each of its records is answered.
 
+use script::Start;
+
 /// Which spools a core is given.
-#[derive(Clone, Copy)]
+#[derive(Drop)]
 pub enum Kind {
     /// Over pages.
     Paged,
     /// Each keeps its runs in lists.
     Lists,
-    /// The first over pages, the second in lists, both in boxes.
+    /// In boxes: by turns over pages and in lists.
     Boxed,
 }
 
 /// So many spools of that many pages each.
-#[derive(Clone, Copy)]
+#[derive(Drop)]
 pub struct Stock {
     pub quota: u32,
     pub count: usize,
+    /// How many of them have an account.
+    pub accounts: usize,
     /// Whether each has a pair.
     pub is_used: bool,
+}
+
+/// The spools that a build wants.
+pub fn stock_of(start: &Start) -> Stock {
+    Stock {
+        quota: start.quota.min(1_024) as u32,
+        count: start.workers.saturating_mul(start.specs.len()),
+        accounts: 0,
+        is_used: false,
+    }
 }
 
 /// A script as docs/SCRIPTS.md has them, on columns of numbers, and what it prints. Three things are its own:
@@ -38,10 +52,9 @@ pub struct Story {
     pub is_list: bool,
     /// Whether a replay prints the same.
     pub is_replayed: bool,
-    /// How many pairs each of its build's spools gets, where their faults are told as well.
-    pub pairs: &'static [u32],
-    /// How many records there are behind the first, and at how many places among these, ends included, a build runs,
-    /// where it is stopped as well.
+    /// How many spools its build has, and how many pairs each gets, where their faults are told as well.
+    pub faults: (usize, u32),
+    /// At how many places among its records, ends included, it is stopped as well, and at how many of these a build runs.
     pub places: (usize, usize),
 }
 
@@ -49,6 +62,7 @@ pub struct Story {
 pub const NONE: Stock = Stock {
     quota: 0,
     count: 0,
+    accounts: 0,
     is_used: false,
 };
 
@@ -62,6 +76,6 @@ pub const PLAIN: Story = Story {
     is_short: false,
     is_list: false,
     is_replayed: true,
-    pairs: &[],
+    faults: (0, 0),
     places: (0, 0),
 };

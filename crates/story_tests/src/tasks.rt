@@ -1,30 +1,23 @@
 //! What is done with a story.
-ghost use Rattle.std.specs.Prelude.{◌≡◌};
 
-use crate::list_spool::{Free, ListSpool};
-use crate::listed::told_as_list;
-use crate::made::Made;
+use crate::listed::{Prepared, told};
 use crate::place::Place;
-use crate::stand::Stand;
-use crate::story::{Kind, Story};
-use crate::telling::{Mode, told_otherwise};
-use crate::turns::{Turn, turns_of};
-use crate::writing::written;
-use builder_core::{Parts, TableRings};
+use crate::story::Story;
+use crate::telling::Way;
+use crate::writing::{script_of, start_of, written};
 use keybytes::Fault;
-use prefix_spool::FaultySpool;
-use replay::{replay, table_parts};
-use run_spool::PlainSpool;
-use script::{Script, Start};
+use replay::replay;
 use std::alloc::Global;
-use std::marker::Brand;
 
 /// What is done with a story.
-#[derive(Clone, Copy)]
 pub enum Task {
-    Tell(Mode),
-    /// Its first events are told as one list; memory may run out or not.
-    List(bool),
+    /// It is told as it is.
+    Tell,
+    /// Memory may run out.
+    Short,
+    /// Its first events are told as one list.
+    List,
+    ShortList,
     /// Its script is replayed.
     Replay,
     /// A fault comes at each push and each read of its spools.
@@ -33,225 +26,84 @@ pub enum Task {
     Stops,
 }
 
-/// A story's table and records.
-#[derive(Drop)]
-pub struct Prepared<'t> {
-    pub story: &'t Story,
-    pub table: &'t script::Table,
-    pub turns: &'t [Turn<'t>],
-}
+/// Where something is otherwise: the number of the telling, and that of the record, or 0.
+pub type Other = Option<(usize, usize)>;
 
-/// Where something is otherwise: the number of a record, or 0; and where a fault came, its spool, whether it refused a
-/// push, and how many went well before.
-pub type Other = Option<[usize; 4]>;
-
-/// The build of a story, if it has one.
-pub fn start_of<'t>(turns: &'t [Turn<'_>]) -> Option<&'t Start> {
-    for turn in turns {
-        if let script::Command::Start(start) = &turn.command {
-            return Some(start);
-        }
-    }
-    None
-}
-
-/// An empty table.
-pub fn parts(alloc: Global, table: &script::Table) -> Result<Parts, Fault> {
-    let kinds = table.kinds.to_vec(alloc)?;
-    table_parts(
-        alloc,
-        script::Table {
-            slot_limit: table.slot_limit,
-            kinds,
-        },
-    )
-}
-
-fn place_of(mode: Mode) -> Option<Place> {
-    match mode {
-        Mode::Faulted(place, _) => Some(place),
-        _ => None,
-    }
-}
-
-/// The number of the first record that is told otherwise on a table under its name; 0 where the story ends otherwise,
-/// or a spool doesn't come back.
-fn told_on<S: Made, T: TableRings>(
-    alloc: Global,
-    parts: Parts,
-    spools: Vec<S>,
-    told: &Prepared<'_>,
-    mode: Mode,
-    came: &mut u32,
-) -> Option<usize>
-    requires pages { parts.pages ≡ T.pages }
-    requires sides { parts.sides ≡ T.sides }
-{
-    let (live, ends) = parts.open::<T>();
-    let mut stand = Stand::new(alloc, live, ends, spools, told.story.given, place_of(mode));
-    let other = told_otherwise(&mut stand, alloc, told.turns, mode, came);
-    if stand.end() {
-        return other;
-    }
-    Some(0)
-}
-
-fn told_beside<S: Made>(
-    alloc: Global,
-    spools: Vec<S>,
-    told: &Prepared<'_>,
-    mode: Mode,
-    came: &mut u32,
-) -> Result<Option<usize>, Fault> {
-    let parts = parts(alloc, told.table)?;
-    Ok(told_on::<S, Brand>(alloc, parts, spools, told, mode, came))
-}
-
-fn told_over<S: Made>(
-    alloc: Global,
-    told: &Prepared<'_>,
-    mode: Mode,
-    came: &mut u32,
-) -> Result<Option<usize>, Fault> {
-    let spools = S::made(alloc, told.story.given, None)?;
-    told_beside(alloc, spools, told, mode, came)
-}
-
-/// The number of the first record that is told otherwise, over spools of the story's kind.
-fn told(
-    alloc: Global,
-    told: &Prepared<'_>,
-    mode: Mode,
-    came: &mut u32,
-) -> Result<Option<usize>, Fault> {
-    match told.story.kind {
-        Kind::Paged => told_over::<FaultySpool<PlainSpool>>(alloc, told, mode, came),
-        Kind::Lists => told_over::<ListSpool<Free>>(alloc, told, mode, came),
-        Kind::Boxed => Ok(None),
-    }
-}
-
-fn tell(alloc: Global, prepared: &Prepared<'_>, mode: Mode) -> Result<Other, Fault> {
-    let other = told(alloc, prepared, mode, &mut 0)?;
-    Ok(other.map(|number| [number, 0, 0, 0]))
-}
-
-/// The first place of a spool whose fault is met otherwise, up to one behind the last that is reached. Each pair is
-/// pushed once and read once, so that there are as many places of either kind as the spool gets pairs.
-fn other_fault(alloc: Global, prepared: &Prepared<'_>, last: Place) -> Result<Other, Fault> {
-    for before in 0..=last.before {
-        let mode = Mode::Faulted(Place { before, ..last }, before < last.before);
-        if let Some(number) = told(alloc, prepared, mode, &mut 0)? {
-            let is_push = usize::from(last.is_push);
-            return Ok(Some([number, last.spool, is_push, before as usize]));
-        }
-    }
-    Ok(None)
-}
-
-fn faults(alloc: Global, prepared: &Prepared<'_>) -> Result<Other, Fault> {
-    let pairs = prepared.story.pairs;
-    let indexes = start_of(prepared.turns).map_or(1, |start| start.specs.len());
-    for number in 0..pairs.len().saturating_mul(2) {
-        let Some(before) = pairs.get(number / 2) else {
-            return Ok(None);
-        };
-        let last = Place {
-            spool: number / 2,
-            indexes,
-            is_push: number % 2 == 0,
-            before: *before,
-        };
-        let other = other_fault(alloc, prepared, last)?;
-        if other.is_some() {
-            return Ok(other);
-        }
-    }
-    Ok(None)
-}
-
-/// The first place where an abandon goes otherwise; or else how many there are, and at how many a build runs, where
-/// these are others.
-fn stops(alloc: Global, prepared: &Prepared<'_>) -> Result<Other, Fault> {
-    let mut ran: u32 = 0;
-    for count in 0..=prepared.turns.len() {
-        let first = Prepared {
-            turns: &prepared.turns[..count],
-            ..*prepared
-        };
-        let last = first.turns.last().map_or(0, |turn| turn.number);
-        if let Some(number) = told(alloc, &first, Mode::Stopped(last), &mut ran)? {
-            return Ok(Some([number, count, 0, 0]));
-        }
-    }
-    if (prepared.turns.len(), ran as usize) != prepared.story.places {
-        return Ok(Some([0, prepared.turns.len(), ran as usize, 0]));
-    }
-    Ok(None)
-}
-
-fn other_in(alloc: Global, prepared: &Prepared<'_>, task: Task) -> Result<Other, Fault> {
+/// How often a story is told. Each pair is pushed once and read once, so that there are as many places of either kind as
+/// a spool gets pairs, and one behind them that isn't reached.
+fn tellings(prepared: &Prepared<'_>, task: &Task) -> usize {
+    let (spools, pairs) = prepared.story.faults;
     match task {
-        Task::Tell(mode) => tell(alloc, prepared, mode),
-        Task::List(is_short) => told_as_list(alloc, prepared, is_short),
-        Task::Faults => faults(alloc, prepared),
-        Task::Stops => stops(alloc, prepared),
-        Task::Replay => Ok(None),
+        Task::Faults => spools
+            .saturating_mul(2)
+            .saturating_mul((pairs as usize).saturating_add(1)),
+        Task::Stops => prepared.commands.len().saturating_add(1),
+        _ => 1,
     }
 }
 
-fn prepared_otherwise(
-    alloc: Global,
-    story: &Story,
-    script: Script,
-    answers: &str,
-    task: Task,
-) -> Result<Other, Fault> {
-    let Script {
-        table,
-        commands,
-        ..
-    } = script;
-    let turns = turns_of(alloc, commands, answers.as_bytes())?;
-    let prepared = Prepared {
-        story,
-        table: &table,
-        turns: &turns,
+fn way_of(prepared: &Prepared<'_>, task: &Task, telling: usize) -> Way {
+    let place = match (task, start_of(prepared.commands)) {
+        (Task::Faults, Some(start)) => {
+            let pairs = prepared.story.faults.1;
+            Some(Place::numbered(telling, start.specs.len(), pairs))
+        }
+        _ => None,
     };
-    other_in(alloc, &prepared, task)
+    Way {
+        is_list: matches!(task, Task::List | Task::ShortList),
+        is_short: matches!(task, Task::Short | Task::ShortList),
+        place,
+        stop: match task {
+            Task::Stops => Some(telling),
+            _ => None,
+        },
+    }
 }
 
 /// Whether a replay of the script prints the answers.
-fn replayed(alloc: Global, script: &str, answers: &str) -> Other {
+fn replayed(alloc: Global, prepared: &Prepared<'_>) -> Result<Other, Fault> {
+    let script = written(alloc, prepared.story.script, 0)?;
     let mut out = Vec::new(alloc);
     let mut err = Vec::new(alloc);
     let _status = replay(alloc, script.as_bytes(), &mut out, &mut err);
-    if out.as_slice() == answers.as_bytes() && err.is_empty() {
-        None
+    if out.as_slice() == prepared.answers && err.is_empty() {
+        Ok(None)
     } else {
-        Some([0, 0, 0, 0])
+        Ok(Some((0, 0)))
     }
 }
 
-fn written_otherwise(
-    alloc: Global,
-    story: &Story,
-    script: &str,
-    answers: &str,
-    task: Task,
-) -> Result<Other, Fault> {
-    if let Task::Replay = task {
-        return Ok(replayed(alloc, script, answers));
+/// The first telling that goes otherwise; where it is stopped also if a build doesn't run at as many places as it should.
+fn first_other(alloc: Global, prepared: &Prepared<'_>, task: &Task) -> Result<Other, Fault> {
+    let tellings = tellings(prepared, task);
+    let mut broken: usize = 0;
+    for telling in 0..tellings {
+        let (other, is_broken) = told(alloc, prepared, &way_of(prepared, task, telling))?;
+        if let Some(number) = other {
+            return Ok(Some((telling, number)));
+        }
+        broken = broken.saturating_add(usize::from(is_broken));
     }
-    match Script::parse(alloc, script.as_bytes()) {
-        Ok(script) => prepared_otherwise(alloc, story, script, answers, task),
-        Err(_) => Err(Fault::Memory),
+    let is_stopped = matches!(task, Task::Stops);
+    if is_stopped && (tellings, broken) != prepared.story.places {
+        return Ok(Some((tellings, broken)));
     }
+    Ok(None)
 }
 
 /// Where a story goes otherwise.
-pub fn otherwise(alloc: Global, story: &Story, task: Task) -> Result<Other, Fault> {
-    let script = written(alloc, story.script)?;
-    let answers = written(alloc, story.answers)?;
-    written_otherwise(alloc, story, script.as_str(), answers.as_str(), task)
+pub fn otherwise(alloc: Global, story: &Story, task: &Task) -> Result<Other, Fault> {
+    let answers = written(alloc, story.answers, 0)?;
+    let script = script_of(alloc, story.script, 0)?;
+    let prepared = Prepared {
+        story,
+        table: &script.table,
+        commands: &script.commands,
+        answers: answers.as_bytes(),
+    };
+    match task {
+        Task::Replay => replayed(alloc, &prepared),
+        _ => first_other(alloc, &prepared, task),
+    }
 }

@@ -1,33 +1,44 @@
 //! Sessions that meet on a table, and a build beside them.
 
-use crate::beside::{Together, outcome};
+use crate::meetings::{Meeting, WHOLE, expect, is_so, outcome};
+use crate::overlapping::ROW;
+use crate::place::NO_FAULT;
 use crate::programs::{IDLE, Program};
-use crate::rows::{On, PAIRED, Rows};
-use crate::thread_builds::{Build, WHOLE};
+use crate::rows::{Rows, SEVEN};
 use crate::watch::{FREE, Holds};
 use keybytes::Fault;
 
-/// The rows 0, 1 and 2 on one page.
-const THREE: Rows = Rows {
-    slots: 255,
-    count: 3,
-    distinct: 3,
-    ..PAIRED
-};
+static NOTHING: Program = IDLE;
 
-const ALONE: Together = Together {
-    place: 0,
-    rows: THREE,
-    programs: [&IDLE, &IDLE, &IDLE, &IDLE],
-    build: None,
-    is_known: false,
-    behind: &IDLE,
-    taken: None,
-    left: 0,
+/// What a session does, by its place: each meeting has four.
+pub fn program_of(place: usize) -> &'static Program {
+    match place {
+        0 | 1 => &INSERTS,
+        4..=7 => &CHANGES,
+        8..=11 => &WANTS,
+        12 => &TURNS,
+        16 => &ROW,
+        _ => &NOTHING,
+    }
+}
+
+/// The rows 0, 1 and 2 on one page.
+const ALONE: Meeting = Meeting {
+    script: "table,255,int,int
+start,2,4,even:1,u:0
+",
+    rows: &Rows {
+        count: 3,
+        distinct: 3,
+        ..SEVEN
+    },
+    is_built: false,
+    told: Ok((0, 0)),
+    ..WHOLE
 };
 
 /// A row a transaction.
-const INSERTS: Program = Program {
+static INSERTS: Program = Program {
     behind: "table,1,int,int
 begin,A
 insert,A,+0,0
@@ -37,15 +48,24 @@ commit,A
     ..IDLE
 };
 
-/// Two sessions insert a hundred rows each.
-static TWO: Together = Together {
-    place: 0,
-    programs: [&INSERTS, &INSERTS, &IDLE, &IDLE],
-    ..ALONE
-};
+/// Two sessions insert a hundred rows each; and the same, where one receipt is kept back.
+static TWO: [Meeting; 2] = [
+    Meeting {
+        place: 0,
+        given: (400, 400),
+        ..ALONE
+    },
+    Meeting {
+        place: 0,
+        keeps_back: true,
+        given: (399, 399),
+        missing: 1,
+        ..ALONE
+    },
+];
 
 /// Of three transactions the first changes two rows and is undone, and each other one changes one and commits.
-const CHANGES: Program = Program {
+static CHANGES: Program = Program {
     behind: "table,1,int,int
 begin,A
 update,A,0.0,+0,0
@@ -63,16 +83,16 @@ commit,A
     ..IDLE
 };
 
-/// Four sessions write to the same rows.
-static FOUR: Together = Together {
+/// Four sessions write to the same rows. How many receipts there are goes with how the threads ran; each record has one.
+static FOUR: [Meeting; 1] = [Meeting {
     place: 1,
-    programs: [&CHANGES, &CHANGES, &CHANGES, &CHANGES],
+    given: (400, usize::MAX),
     ..ALONE
-};
+}];
 
 /// Each transaction wants the key 7, and gives one of the three rows a key that no other row gets. Until the index is
 /// ready all are undone, and then every second one commits.
-const WANTS: Program = Program {
+static WANTS: Program = Program {
     script: "table,1,int,int
 begin,A
 insert,A,7,0
@@ -139,32 +159,35 @@ commit,A
     ..IDLE
 };
 
-const UNIQUE: On = On {
-    column: 0,
-    is_unique: true,
+/// A key of the first index that no row may be given any more.
+const DENIED: Program = Program {
+    behind: "table,1,int,int
+begin,A
+insert,A,7,0
+undo,A
+",
+    rounds: 1,
+    is_denied: true,
+    ..IDLE
 };
 
-/// A build that may not catch up with sessions that write all the time.
-const UNIQUE_BUILD: Build = Build {
-    indexes: &[UNIQUE],
-    workers: 2,
+/// Four sessions write to the same rows and want the same key, while a build makes this key unique, which may not catch
+/// up with sessions that write all the time, and after it. The last transaction that wants it commits, so one of them has
+/// it in the end.
+static CONTENDED: [Meeting; 1] = [Meeting {
+    is_built: true,
     tries: 1_000_000,
-    ..WHOLE
-};
-
-/// Four sessions write to the same rows and want the same key, while a build makes this key unique and after it. The
-/// last transaction that wants it commits, so one of them has it in the end.
-static CONTENDED: Together = Together {
     place: 2,
-    programs: [&WANTS, &WANTS, &WANTS, &WANTS],
-    build: Some(&UNIQUE_BUILD),
-    taken: Some(7),
-    left: 4,
+    behind: &DENIED,
+    is_quiet: false,
+    further: 1,
+    told: Ok((1, 4)),
+    given: (1, usize::MAX),
     ..ALONE
-};
+}];
 
 /// Of two transactions with two writes the second is taken back; meanwhile it can't write any more.
-const TURNS: Program = Program {
+static TURNS: Program = Program {
     behind: "table,1,int,int
 begin,A
 insert,A,+100,+1100
@@ -200,83 +223,67 @@ undo,A
     ..IDLE
 };
 
-const SECOND: On = On {
-    column: 1,
-    is_unique: false,
-};
-
-const TWO_INDEXES: Build = Build {
-    indexes: &[UNIQUE, SECOND],
-    workers: 2,
-    ranges: 2,
+/// A build of two indexes by two workers beside a session, and one more turn behind it. Memory may run out once.
+static SHORT: [Meeting; 1] = [Meeting {
+    script: "table,2,int,int
+start,2,4,even:2,u:0,n:1
+",
+    rows: &Rows {
+        more: 1000,
+        is_reversed: false,
+        ..SEVEN
+    },
     tries: 1_000_000,
-    holds: Holds {
+    holds: &Holds {
         yields: 1000,
         ..FREE
     },
+    place: 3,
+    behind: &LAST_TURN,
+    is_quiet: false,
+    is_known: true,
+    further: 7,
+    told: Ok((2, 28)),
+    given: (50, 50),
+    ..WHOLE
+}];
+
+/// The same where memory ran out: the build is given up, and its record isn't there.
+static GIVEN_UP: Meeting = Meeting {
+    told: Err(Fault::Memory),
+    given: (49, 49),
     ..WHOLE
 };
 
-/// A build of two indexes by two workers beside a session, and one more turn behind it. Memory may run out once.
-static SHORT: Together = Together {
-    place: 3,
-    rows: Rows {
-        more: 1000,
-        is_reversed: false,
-        ..PAIRED
-    },
-    programs: [&TURNS, &IDLE, &IDLE, &IDLE],
-    build: Some(&TWO_INDEXES),
-    is_known: true,
-    behind: &LAST_TURN,
-    taken: None,
-    left: 14,
-};
-
-/// All of them, each at its place.
-pub fn all() -> [&'static Together; 4] {
-    [&TWO, &FOUR, &CONTENDED, &SHORT]
-}
-
-/// Two sessions insert a hundred rows each, in threads of their own.
 #[test]
 fn sessions_two(rt: HostRuntime) {
-    assert_eq!(rt; outcome(&rt, rt.alloc(), &TWO, false), Ok(Some((400, 0))));
+    expect(&rt, rt.alloc(), &TWO);
 }
 
-/// The same, and one receipt is kept back.
-#[test]
-fn sessions_two_with_one_receipt_kept_back(rt: HostRuntime) {
-    assert_eq!(rt; outcome(&rt, rt.alloc(), &TWO, true), Ok(Some((399, 1))));
-}
-
-/// How many receipts there are goes with how the threads ran; each record has one.
 #[test]
 fn four_sessions_on_the_same_rows(rt: HostRuntime) {
-    let told = outcome(&rt, rt.alloc(), &FOUR, false);
-    assert!(rt; matches!(told, Ok(Some((given, 0))) if given >= 400));
+    expect(&rt, rt.alloc(), &FOUR);
 }
 
 /// Each refusal is for a row or a key that is another's.
 #[test]
 fn four_sessions_beside_a_build(rt: HostRuntime) {
-    let told = outcome(&rt, rt.alloc(), &CONTENDED, false);
-    assert!(rt; matches!(told, Ok(Some((_, 0)))));
+    expect(&rt, rt.alloc(), &CONTENDED);
 }
 
 /// With ample memory the build decides.
 #[test]
 fn decides(rt: HostRuntime) {
-    assert_eq!(rt; outcome(&rt, rt.alloc(), &SHORT, false), Ok(Some((50, 0))));
+    expect(&rt, rt.alloc(), &SHORT);
 }
 
 /// It is run by itself, with each of its allocations refused in turn: then the build is given up, and its record isn't
 /// there.
 #[test]
 fn decides_where_memory_may_run_out(rt: HostRuntime) {
-    let once = match outcome(&rt, rt.alloc(), &SHORT, false) {
-        Err(Fault::Memory) => outcome(&rt, rt.alloc(), &SHORT, false),
+    let once = match outcome(&rt, rt.alloc(), &SHORT[0], &NO_FAULT) {
+        Err(Fault::Memory) => outcome(&rt, rt.alloc(), &SHORT[0], &NO_FAULT),
         once => once,
     };
-    assert!(rt; matches!(once, Ok(Some((49 | 50, 0)))));
+    assert!(rt; is_so(&SHORT[0], &once) || is_so(&GIVEN_UP, &once));
 }

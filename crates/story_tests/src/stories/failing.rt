@@ -40,8 +40,8 @@ switch
 527,ok,516,ready:0
 527,pages,0
 ",
-        pairs: &[1],
-        places: (526, 522),
+        faults: (1, 1),
+        places: (527, 522),
         ..PLAIN
     },
     Story {
@@ -85,8 +85,8 @@ switch
 18,ok,9,ready:0
 18,pages,0
 ",
-        pairs: &[2],
-        places: (17, 10),
+        faults: (1, 2),
+        places: (18, 10),
         ..PLAIN
     },
     Story {
@@ -141,8 +141,8 @@ switch
 23,shared,0,4,0.1,0.3
 23,pages,0
 ",
-        pairs: &[5, 5],
-        places: (22, 6),
+        faults: (2, 5),
+        places: (23, 6),
         ..PLAIN
     },
 ];

@@ -417,7 +417,7 @@ switch
 204,pages,0
 205,refused,41,NoBuild
 ",
-    pairs: &[75, 75, 75, 75],
-    places: (204, 50),
+    faults: (4, 75),
+    places: (205, 50),
     ..PLAIN
 }];

@@ -1,19 +1,20 @@
 //! Which spools a start takes, and what a build does that wants a page.
 
-use crate::story::{PLAIN, Stock, Story};
+use crate::story::{NONE, PLAIN, Stock, Story};
 
 /// One spool of a page, which has a pair.
 const USED: Stock = Stock {
     quota: 1,
     count: 1,
     is_used: true,
+    ..NONE
 };
 
 /// Two of a page each.
 const TWO_OF_A_PAGE: Stock = Stock {
     quota: 1,
     count: 2,
-    is_used: false,
+    ..NONE
 };
 
 pub static STORIES: [Story; 6] = [

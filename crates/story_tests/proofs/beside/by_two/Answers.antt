@@ -1,6 +1,7 @@
 use denote.Param.Send.{sendable}
-use Rattle.crew.proofs.Crosses.{session_send}
+use Rattle.crew.proofs.Crosses.{table_sync}
+use Rattle.story_tests.proofs.watch.Watch.TheSendSync as watch
 use Rattle.story_tests.proofs.beside.by_two.Goals as goal
 
-pub join-a-requires-send-F : goal.join-a-requires-send-F
-join-a-requires-send-F g c = search (session_send, sendable) depth 20
+pub join-one-requires-send-F : goal.join-one-requires-send-F
+join-one-requires-send-F g c = search (table_sync, watch.the_sync, sendable) depth 20

@@ -1,6 +1,7 @@
 use denote.Param.Send.{sendable}
 use Rattle.crew.proofs.Crosses.{table_sync}
+use Rattle.story_tests.proofs.watch.Watch.TheSendSync as watch
 use Rattle.story_tests.proofs.beside.written.Goals as goal
 
 pub join-written-requires-send-F : goal.join-written-requires-send-F
-join-written-requires-send-F g c = search (table_sync, sendable) depth 20
+join-written-requires-send-F g c = search (table_sync, watch.the_sync, sendable) depth 20

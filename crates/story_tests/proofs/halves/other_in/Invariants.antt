@@ -1,4 +1,4 @@
-use Rattle.story_tests.proofs.halves.other_beside.Given as goal
+use Rattle.story_tests.proofs.halves.other_in.Given as goal
 
 -- the table is named by its own rings
 abbrev pub ghosts-other_of : goal.ghosts-other_of

@@ -1,4 +1,4 @@
-use Rattle.story_tests.proofs.tasks.told_beside.Given as goal
+use Rattle.story_tests.proofs.listed.told_over.Given as goal
 
 -- the table is named by its own rings
 abbrev pub ghosts-told_on : goal.ghosts-told_on
