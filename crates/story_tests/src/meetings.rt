@@ -282,18 +282,17 @@ pub fn is_so(meeting: &Meeting, came: &Result<Came, Fault>) -> bool {
         return false;
     };
     let (told, given, missing) = came.0;
-    let seen = came.1;
     told == meeting.told
         && meeting.given.0 <= given
         && given <= meeting.given.1
         && missing == meeting.missing
-        && begins_with(&seen, meeting.seen)
+        && begins_with(&came.1, meeting.seen)
 }
 
-/// Whether the numbers begin with those wanted.
-fn begins_with(numbers: &[u64], wanted: &[u64]) -> bool {
-    for place in 0..wanted.len() {
-        if numbers.get(place).copied() != wanted.get(place).copied() {
+/// Whether what was seen begins so.
+fn begins_with(seen: &Seen, wanted: &[u64]) -> bool {
+    for (place, number) in wanted.iter().enumerate() {
+        if place >= 8 || seen[place] != *number {
             return false;
         }
     }
