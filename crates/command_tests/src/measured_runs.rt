@@ -85,7 +85,9 @@ static RUNS: [(&[&str], Measured); 21] = [
     ),
     (
         &["--rows", "1234", "--columns", "int,text:5"],
-        Measured::Table("1234 rows of int,text:5, indexes 1, workers 1, writes 0, seed 1992"),
+        Measured::Table(
+            "1234 rows of int,text:5, indexes 1, workers 1, writes 0, sessions 1, writers 0, seed 1992",
+        ),
     ),
     (&["fast"], Measured::Nothing),
     (&["--rows", "0"], Measured::Nothing),
