@@ -35,7 +35,11 @@ impl<S: Spool> Model for UnnamedCore<S> {
     ghost use Rattle.building.specs.BuildingValue.{intakes};
     ghost use Rattle.building.specs.Rings.{put_rings, take_rings};
 
-    ghost view = { λ unnamed. record { core = core_state unnamed.live unnamed.building; pages = put_rings unnamed.live.pages; sides = side_rings unnamed.live.sides } };
+    ghost view = { λ unnamed. record {
+      core = core_state unnamed.live unnamed.building;
+      pages = put_rings unnamed.live.pages;
+      sides = side_rings unnamed.live.sides;
+    } };
 
     ghost invariant = { λ unnamed. StandsBeside unnamed.live unnamed.building
         × (take_rings (intakes unnamed.building.workers unnamed.building.idle) ≡ put_rings unnamed.live.pages)

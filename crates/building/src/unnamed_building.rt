@@ -59,7 +59,8 @@ impl<S: Spool> Model for UnnamedBuilding<S> {
       work = unnamed.work;
     } };
 
-    ghost invariant = { λ unnamed. AreTakeEnds (take_rings (intakes unnamed.workers.items unnamed.idle.items)) (taken_rings (map take_end unnamed.side_ends.items))
+    ghost invariant = { λ unnamed. AreTakeEnds (take_rings (intakes unnamed.workers.items unnamed.idle.items))
+        (taken_rings (map take_end unnamed.side_ends.items))
         (intakes unnamed.workers.items unnamed.idle.items) (map take_end unnamed.side_ends.items)
         × (16 ≤ vec_capacity unnamed.idle)
         × (length (all_spools unnamed.workers.items (map (spool_value S.runs S.open_run S.stake) unnamed.spools.items)) ≤ vec_capacity unnamed.spools)
