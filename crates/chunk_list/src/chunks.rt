@@ -1,6 +1,9 @@
-ghost use Rattle.std.specs.Prelude.{◌≡◌, ◌+◌, ◌-◌, ◌*◌, ◌<◌, ◌≤◌, ◌==◌, min, [], ◌∷◌, ◌++◌, length, take, drop, OnOk, vec_len, if◌then◌else◌};
+ghost use Rattle.std.specs.Prelude.{◌≡◌, ◌+◌, ◌-◌, ◌*◌, ◌<◌, ◌≤◌, ◌==◌, min, max, All, [], ◌∷◌, ◌++◌, length, take, drop, OnOk, vec_len, if◌then◌else◌};
 ghost use Rattle.std.specs.Option.{option_to_list};
 ghost use Rattle.std.specs.VecDeque.{deque_len, deque_capacity};
+ghost use Rattle.chunk_list.specs.Chunks.{chunk_items, open_places, places, IsSpare, AreKept};
+ghost use Rattle.chunk_list.specs.Moves.{KeepsSpare, MovesFull, MovesLast};
+ghost use Rattle.chunk_list.specs.Left.{queue_items_left};
 
 use crate::{CHUNK, QueueItems};
 use std::alloc::{AllocError, Global};
@@ -28,11 +31,23 @@ fn none<T>(alloc: Global) -> VecDeque<T>
     VecDeque::from_vec(Vec::new(alloc))
 }
 
-impl<T: Drop> Chunks<T> {
-    ghost use Rattle.chunk_list.specs.Chunks.{chunk_items, open_places, places, AreKept};
-    ghost use Rattle.chunk_list.specs.Moves.{KeepsSpare, MovesFull, MovesLast};
-    ghost use Rattle.chunk_list.specs.Left.{queue_items_left};
+/// Makes the spare chunks that many, if they are fewer.
+fn add_spare<T>(spare: &mut Vec<VecDeque<T>>, count: usize) -> Result<(), AllocError>
+    ensures spare { All IsSpare spare.old.items → All IsSpare spare.new.items }
+    ensures longer { vec_len spare.old ≤ vec_len spare.new }
+    ensures most { vec_len spare.new ≤ max (vec_len spare.old) count }
+    ensures ok { OnOk result (count ≤ vec_len spare.new) }
+{
+    let alloc = *spare.allocator();
+    spare.reserve(count)?;
+    while spare.len() < count {
+        let empty = VecDeque::with_capacity(alloc, CHUNK)?;
+        spare.push_reserved(empty);
+    }
+    Ok(())
+}
 
+impl<T: Drop> Chunks<T> {
     /// No chunks.
     pub fn new(alloc: Global) -> Chunks<T>
         ensures kept { AreKept result }
@@ -54,16 +69,10 @@ impl<T: Drop> Chunks<T> {
         ensures ok { OnOk result (additional ≤ places self.new) }
         ensures places { places self.old ≤ places self.new }
     {
-        let alloc = *self.spare.allocator();
         let here = CHUNK.min(self.last.capacity()) - self.last.len();
         let count = additional.saturating_sub(here).div_ceil(CHUNK);
-        self.full.reserve(count)?;
-        self.spare.reserve(count)?;
-        while self.spare.len() < count {
-            let empty = VecDeque::with_capacity(alloc, CHUNK)?;
-            self.spare.push_reserved(empty);
-        }
-        Ok(())
+        self.full.reserve(count.max(self.spare.len()))?;
+        add_spare(&mut self.spare, count)
     }
 
     /// Puts an item behind the others.

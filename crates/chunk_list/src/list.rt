@@ -75,7 +75,7 @@ impl<T> ChunkList<T> {
     pub fn is_empty(&self) -> bool
         ensures { result ≡ (length self.now.items == 0) }
     {
-        self.len == 0
+        self.len() == 0
     }
 
     /// Makes room for that many more items. It takes whole chunks, and no memory where the room is there; no item moves, only the
@@ -125,7 +125,7 @@ impl<T> ChunkList<T> {
     pub fn last(&self) -> Option<&T>
         ensures { option_copied result ≡ slice_get self.now.items (length self.now.items - 1) }
     {
-        self.get(self.len.saturating_sub(1))
+        self.get(self.len().saturating_sub(1))
     }
 
     /// The items in order.
