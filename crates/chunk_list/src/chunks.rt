@@ -1,4 +1,4 @@
-ghost use Rattle.std.specs.Prelude.{◌≡◌, ◌+◌, ◌-◌, ◌*◌, ◌<◌, ◌≤◌, ◌==◌, min, max, All, [], ◌∷◌, ◌++◌, length, take, drop, OnOk, vec_len, if◌then◌else◌};
+ghost use Rattle.std.specs.Prelude.{◌≡◌, ◌+◌, ◌-◌, ◌*◌, ◌<◌, ◌≤◌, ◌==◌, min, max, All, [], ◌∷◌, ◌++◌, length, take, drop, IsSome, OnOk, vec_len, if◌then◌else◌};
 ghost use Rattle.std.specs.Option.{option_to_list};
 ghost use Rattle.std.specs.VecDeque.{deque_len, deque_capacity};
 ghost use Rattle.chunk_list.specs.Chunks.{chunk_items, open_places, places, IsSpare, AreKept};
@@ -116,6 +116,7 @@ impl<T: Drop> Chunks<T> {
         requires { AreKept self.old }
         ensures kept { AreKept self.new }
         ensures items { chunk_items self.old ≡ option_to_list result ++ chunk_items self.new }
+        ensures some { 0 < length (chunk_items self.old) → IsSome result }
         ensures places { places self.old ≤ places self.new }
     {
         if let Some(value) = self.first.pop_front() {
