@@ -4,7 +4,7 @@ use Rattle.std.proofs.lemmas.List.{length-append, length_push, append-nil, appen
 use Rattle.std.proofs.lemmas.List.Concat.{flat_map-append}
 use Rattle.std.proofs.lemmas.List.Elements.{All-push}
 use Rattle.std.specs.Global.{Vec}
-use Rattle.chunk_list.specs.Filled.{AreFilled, HavePlaces, Grows}
+use Rattle.chunk_list.specs.Filled.{AreFilled, Grows}
 
 module _ {T : Type 0} where
   -- there are as many items

@@ -1,11 +1,11 @@
 -- Lemmas on a list as its chunks keep it.
-use Rattle.std.proofs.Common.{◌≡◌, ℕ, ◌+◌, ◌-◌, ◌*◌, ◌/◌, ◌%◌, ◌<◌, ◌≤◌, min, List, [], ◌∷◌, ◌++◌, length, get_or, set, flat_map, slice_get, Some, None, vec_items, vec_len, vec_capacity, refl, sym, ap, ◌∙◌, arith}
+use Rattle.std.proofs.Common.{◌≡◌, ℕ, ◌+◌, ◌-◌, ◌*◌, ◌/◌, ◌%◌, ◌<◌, ◌≤◌, min, List, [], ◌∷◌, ◌++◌, length, get_or, set, flat_map, slice_get, Some, vec_items, vec_len, vec_capacity, sym, ap, ◌∙◌, arith}
 use Rattle.std.proofs.lemmas.List.{length-set}
 use Rattle.std.proofs.lemmas.List.Elements.{All-get_or, All-set}
-use Rattle.std.proofs.lemmas.Option.{slice_get_read, slice_get_past}
+use Rattle.std.proofs.lemmas.Option.{slice_get_read}
 use Rattle.std.specs.Global.{Vec}
 use Rattle.std.specs.Vec.{with_item}
-use Rattle.chunk_list.specs.Filled.{IsList, AreFilled, HavePlaces}
+use Rattle.chunk_list.specs.Filled.{IsList}
 use Rattle.chunk_list.proofs.FilledLemmas.{length-filled, filled-le, length-chunk, get_or-filled, filled-push, flat_map-push, filled-write, flat_map-write}
 
 module _ {T : Type 0} (chunks : List (Vec T)) (len room : ℕ) (list : IsList chunks len room) where
@@ -78,7 +78,7 @@ module _ {T : Type 0} (chunks : List (Vec T)) (len room : ℕ) (list : IsList ch
     write-kept =
         let there = chunk-there place l in
         let long : length (set e.items (place % 1024) w) ≡ length (get_or chunks (place / 1024) e).items =
-            length-set e.items (place % 1024) w ∙ ap (λ (v : Vec T). length v.items) is in
+        length-set e.items (place % 1024) w ∙ ap (λ (v : Vec T). length v.items) is in
         let big : 1024 ≤ vec_capacity (get_or chunks (place / 1024) e) = All-get_or (λ (v : Vec T). 1024 ≤ vec_capacity v) chunks (place / 1024) e there list.places in
         let same_e : vec_capacity e ≡ vec_capacity (get_or chunks (place / 1024) e) = ap (λ (v : Vec T). vec_capacity v) is in
         let has : 1024 ≤ vec_capacity e = omega arith in

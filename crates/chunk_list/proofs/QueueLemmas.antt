@@ -1,5 +1,5 @@
 -- Lemmas on the chunks of a queue.
-use Rattle.std.proofs.Common.{◌≡◌, ℕ, zero, suc, ◌+◌, ◌-◌, ◌*◌, ◌<◌, ◌≤◌, min, List, [], ◌∷◌, ◌++◌, length, take, drop, flat_map, vec_len, All, deque_items, deque_len, Global, refl, sym, ap, ◌∙◌, arith}
+use Rattle.std.proofs.Common.{◌≡◌, ℕ, zero, suc, ◌+◌, ◌*◌, ◌≤◌, List, [], ◌∷◌, ◌++◌, length, take, drop, flat_map, All, deque_items, Global, refl, sym, ap, ◌∙◌, arith}
 use Rattle.std.proofs.lemmas.List.{length-append, length-take-le, append-nil, append_assoc, take-append-drop, drop-drop, nil_from_length}
 use Rattle.std.proofs.lemmas.List.Concat.{flat_map-append}
 use Rattle.std.proofs.lemmas.List.Elements.{All-head, All-tail, All-take}
@@ -26,7 +26,7 @@ module _ {T : Type 0} where
       let taken : List T = flat_map deque_items (take count full) in
       let left : List T = flat_map deque_items (drop count full) in
       let whole : taken ++ left ≡ flat_map deque_items full =
-          sym (flat_map-append deque_items (take count full) (drop count full)) ∙ ap (flat_map deque_items) (take-append-drop count full) in
+      sym (flat_map-append deque_items (take count full) (drop count full)) ∙ ap (flat_map deque_items) (take-append-drop count full) in
       rw (append-nil taken, append_assoc first taken (left ++ last)) (ap (λ xs. first ++ xs) (sym (append_assoc taken left last) ∙ ap (λ xs. xs ++ last) whole))
 
 pub take-add : {X : Type 0} → (m n : ℕ) (xs : List X) → take (m + n) xs ≡ take m xs ++ take n (drop m xs)
@@ -112,5 +112,5 @@ module _ {T : Type 0} (self taken from to new new_to : Chunks T) (count : ℕ) (
   taken-length_all last_from last_to m l =
       let cut : length (take count self.full.items) ≡ count = length-take-le count self.full.items l in
       let all = length-chunks last_to self.first.items self.last.items (take count self.full.items) (ap deque_items m.to_first ∙ taken-first) (ap deque_items m.to_full ∙ taken-full)
-          (m.moved ∙ left-last) (All-take IsFull count self.full.items kept.full) in
+      (m.moved ∙ left-last) (All-take IsFull count self.full.items kept.full) in
       omega arith

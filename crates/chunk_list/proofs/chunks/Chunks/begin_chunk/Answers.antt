@@ -1,4 +1,4 @@
-use Rattle.std.proofs.Common.{◌≡◌, List, [], length, Some, deque_items, deque_len, deque_capacity, ap, ◌∙◌, arith}
+use Rattle.std.proofs.Common.{◌≡◌, length, Some, deque_items, deque_len, deque_capacity, ap, ◌∙◌, arith}
 use Rattle.std.proofs.lemmas.List.Elements.{All-pop}
 use Rattle.chunk_list.specs.Chunks.{IsSpare}
 use Rattle.chunk_list.proofs.QueueLemmas.{chunk-begun}

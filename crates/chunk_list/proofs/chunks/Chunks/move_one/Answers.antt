@@ -1,4 +1,4 @@
-use Rattle.std.proofs.Common.{[], ◌∷◌, ◌++◌, Some, arith}
+use Rattle.std.proofs.Common.{Some, arith}
 use Rattle.std.proofs.lemmas.List.Elements.{All-pop, All-rest, All-head, All-push, All-same}
 use Rattle.chunk_list.specs.Chunks.{IsSpare, IsFull}
 use Rattle.chunk_list.proofs.chunks.Chunks.move_one.Goals as goal

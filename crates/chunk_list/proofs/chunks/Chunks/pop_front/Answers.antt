@@ -1,4 +1,4 @@
-use Rattle.std.proofs.Common.{◌≡◌, deque_len, ap, arith}
+use Rattle.std.proofs.Common.{deque_len, ap, arith}
 use Rattle.std.proofs.lemmas.List.Elements.{All-rest, All-head}
 use Rattle.chunk_list.specs.Chunks.{IsFull}
 use Rattle.chunk_list.proofs.chunks.Chunks.pop_front.Goals as goal

@@ -1,4 +1,4 @@
-use Rattle.std.proofs.Common.{◌<◌, arith}
+use Rattle.std.proofs.Common.{◌<◌}
 use Rattle.chunk_list.proofs.ListLemmas.{place-open, push-kept, push-items}
 use Rattle.chunk_list.proofs.list.ChunkList.push_reserved.Goals as goal
 
