@@ -1,6 +1,8 @@
 -- Lemmas on chunks that are filled one behind the other.
-use Rattle.std.proofs.Common.{◌≡◌, ℕ, zero, suc, ◌+◌, ◌-◌, ◌*◌, ◌<◌, ◌≤◌, min, List, [], ◌∷◌, ◌++◌, length, get_or, set, flat_map, vec_items, vec_capacity, refl, sym, ap, ◌∙◌, subst, arith}
-use Rattle.std.proofs.lemmas.List.{length-append, length_push, append-nil, append_assoc, get_or_append_left, get_or-append_right, set-append_left, set-append_right, nil_from_length}
+use Rattle.std.proofs.Common.{◌≡◌, ℕ, zero, suc, ◌+◌, ◌-◌, ◌*◌, ◌<◌, ◌≤◌, min, List, [], ◌∷◌, ◌++◌, length, get_or, set, flat_map, vec_items, vec_capacity}
+use Rattle.std.proofs.Common.{refl, sym, ap, ◌∙◌, subst, arith}
+use Rattle.std.proofs.lemmas.List.{length-append, length_push, append-nil, append_assoc, get_or_append_left, get_or-append_right, set-append_left}
+use Rattle.std.proofs.lemmas.List.{set-append_right, nil_from_length}
 use Rattle.std.proofs.lemmas.List.Concat.{flat_map-append}
 use Rattle.std.proofs.lemmas.List.Elements.{All-push}
 use Rattle.std.specs.Global.{Vec}
@@ -17,7 +19,8 @@ module _ {T : Type 0} where
   filled-le n (chunk ∷ chunks) h = omega (arith, filled-le (n - 1024) chunks h.1)
 
   -- how many items the chunk at q has
-  pub length-chunk : (n q : ℕ) (chunks : List (Vec T)) (d : Vec T) → AreFilled n chunks → q < length chunks → length (get_or chunks q d).items ≡ min 1024 (n - 1024 * q)
+  pub length-chunk : (n q : ℕ) (chunks : List (Vec T)) (d : Vec T) → AreFilled n chunks → q < length chunks
+      → length (get_or chunks q d).items ≡ min 1024 (n - 1024 * q)
   length-chunk n q [] d h l = absurd (omega (arith, l))
   length-chunk n zero (chunk ∷ chunks) d h l = let same : min 1024 n ≡ min 1024 (n - 1024 * zero) = omega arith in h.0 ∙ same
   length-chunk n (suc q) (chunk ∷ chunks) d h l =
@@ -49,8 +52,11 @@ module _ {T : Type 0} where
       let none : n - 1024 ≡ n + 1 - 1024 = omega arith in
       (omega (arith, one, h.0), subst (λ m. AreFilled m chunks) none h.1)
   filled-push n (suc q) r (chunk ∷ chunks) d grown x h e l i p =
-      let next : n - 1024 + 1 ≡ n + 1 - 1024 = omega arith in
-      (omega (arith, h.0), subst (λ m. AreFilled m (set chunks q grown)) next (filled-push (n - 1024) q r chunks d grown x h.1 (omega arith) l (omega (arith, i)) p))
+      let next : n - 1024 + 1 ≡ n + 1 - 1024 = omega arith in (
+        omega (arith, h.0),
+        subst (λ m. AreFilled m (set chunks q grown)) next (filled-push (n - 1024) q r chunks d grown x h.1 (omega arith) l (omega
+            (arith, i)) p),
+      )
 
   pub flat_map-push : (n q r : ℕ) (chunks : List (Vec T)) (d grown : Vec T) (x : T) → AreFilled n chunks → n ≡ 1024 * q + r → r < 1024 → q < length chunks
       → grown.items ≡ (get_or chunks q d).items ++ x ∷ [] → flat_map vec_items (set chunks q grown) ≡ flat_map vec_items chunks ++ x ∷ []

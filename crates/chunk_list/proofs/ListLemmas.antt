@@ -1,5 +1,6 @@
 -- Lemmas on a list as its chunks keep it.
-use Rattle.std.proofs.Common.{◌≡◌, ℕ, ◌+◌, ◌-◌, ◌*◌, ◌/◌, ◌%◌, ◌<◌, ◌≤◌, min, List, [], ◌∷◌, ◌++◌, length, get_or, set, flat_map, slice_get, Some, vec_items, vec_len, vec_capacity, sym, ap, ◌∙◌, arith}
+use Rattle.std.proofs.Common.{◌≡◌, ℕ, ◌+◌, ◌-◌, ◌*◌, ◌/◌, ◌%◌, ◌<◌, ◌≤◌, min, List, [], ◌∷◌, ◌++◌, length, get_or, set, flat_map, slice_get, Some}
+use Rattle.std.proofs.Common.{vec_items, vec_len, vec_capacity, sym, ap, ◌∙◌, arith}
 use Rattle.std.proofs.lemmas.List.{length-set}
 use Rattle.std.proofs.lemmas.List.Elements.{All-get_or, All-set}
 use Rattle.std.proofs.lemmas.Option.{slice_get_read}
@@ -31,8 +32,10 @@ module _ {T : Type 0} (chunks : List (Vec T)) (len room : ℕ) (list : IsList ch
       let small : place % 1024 < 1024 = omega arith in
       let within : 1024 * (place / 1024) + place % 1024 < len = omega arith in
       let same = get_or-filled len (place / 1024) (place % 1024) chunks e x list.filled small within in
-      let here : get_or e.items (place % 1024) x ≡ get_or (get_or chunks (place / 1024) e).items (place % 1024) x = ap (λ (v : Vec T). get_or v.items (place % 1024) x) is in
-      let at : get_or (flat_map vec_items chunks) (1024 * (place / 1024) + place % 1024) x ≡ get_or (flat_map vec_items chunks) place x = ap (λ k. get_or (flat_map vec_items chunks) k x) split in
+      let here : get_or e.items (place % 1024) x ≡ get_or (get_or chunks (place / 1024) e).items (place % 1024) x = ap (λ (v : Vec T). get_or v.items
+      (place % 1024) x) is in
+      let at : get_or (flat_map vec_items chunks) (1024 * (place / 1024) + place % 1024) x ≡ get_or (flat_map vec_items chunks) place x = ap (λ k. get_or
+      (flat_map vec_items chunks) k x) split in
       slice_get_read (flat_map vec_items chunks) len place x counted l (has ∙ here ∙ sym same ∙ at)
 
   -- the first chunk with a free place has one
@@ -43,7 +46,8 @@ module _ {T : Type 0} (chunks : List (Vec T)) (len room : ℕ) (list : IsList ch
   place-open e some is =
       let there = chunk-open some in
       let has = chunk-length (len / 1024) e there is in
-      let big : 1024 ≤ vec_capacity (get_or chunks (len / 1024) e) = All-get_or (λ (v : Vec T). 1024 ≤ vec_capacity v) chunks (len / 1024) e there list.places in
+      let big : 1024 ≤ vec_capacity (get_or chunks (len / 1024) e) = All-get_or (λ (v : Vec T). 1024 ≤ vec_capacity v) chunks (len / 1024) e there
+      list.places in
       let same : vec_capacity e ≡ vec_capacity (get_or chunks (len / 1024) e) = ap (λ (v : Vec T). vec_capacity v) is in
       omega arith
 
@@ -56,7 +60,8 @@ module _ {T : Type 0} (chunks : List (Vec T)) (len room : ℕ) (list : IsList ch
         let there = chunk-open some in
         let split : len ≡ 1024 * (len / 1024) + len % 1024 = omega arith in
         let small : len % 1024 < 1024 = omega arith in
-        let big : 1024 ≤ vec_capacity (get_or chunks (len / 1024) e) = All-get_or (λ (v : Vec T). 1024 ≤ vec_capacity v) chunks (len / 1024) e there list.places in
+        let big : 1024 ≤ vec_capacity (get_or chunks (len / 1024) e) = All-get_or (λ (v : Vec T). 1024 ≤ vec_capacity v) chunks (len / 1024) e there
+        list.places in
         let same_e : vec_capacity e ≡ vec_capacity (get_or chunks (len / 1024) e) = ap (λ (v : Vec T). vec_capacity v) is in
         let room_is = list.has_room in
         let count_is = list.countable in
@@ -79,7 +84,8 @@ module _ {T : Type 0} (chunks : List (Vec T)) (len room : ℕ) (list : IsList ch
         let there = chunk-there place l in
         let long : length (set e.items (place % 1024) w) ≡ length (get_or chunks (place / 1024) e).items =
         length-set e.items (place % 1024) w ∙ ap (λ (v : Vec T). length v.items) is in
-        let big : 1024 ≤ vec_capacity (get_or chunks (place / 1024) e) = All-get_or (λ (v : Vec T). 1024 ≤ vec_capacity v) chunks (place / 1024) e there list.places in
+        let big : 1024 ≤ vec_capacity (get_or chunks (place / 1024) e) = All-get_or (λ (v : Vec T). 1024 ≤ vec_capacity v) chunks (place / 1024) e there
+        list.places in
         let same_e : vec_capacity e ≡ vec_capacity (get_or chunks (place / 1024) e) = ap (λ (v : Vec T). vec_capacity v) is in
         let has : 1024 ≤ vec_capacity e = omega arith in
         let room_is = list.has_room in
@@ -95,6 +101,7 @@ module _ {T : Type 0} (chunks : List (Vec T)) (len room : ℕ) (list : IsList ch
         let split : 1024 * (place / 1024) + place % 1024 ≡ place = omega arith in
         let small : place % 1024 < 1024 = omega arith in
         let within : 1024 * (place / 1024) + place % 1024 < len = omega arith in
-        let written : set e.items (place % 1024) w ≡ set (get_or chunks (place / 1024) e).items (place % 1024) w = ap (λ (v : Vec T). set v.items (place % 1024) w) is in
+        let written : set e.items (place % 1024) w ≡ set (get_or chunks (place / 1024) e).items (place % 1024) w = ap (λ (v : Vec T). set v.items (place %
+        1024) w) is in
         flat_map-write len (place / 1024) (place % 1024) chunks e (with_item e (place % 1024) w) w list.filled small within written
         ∙ ap (λ k. set (flat_map vec_items chunks) k w) split

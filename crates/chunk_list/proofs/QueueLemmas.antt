@@ -1,5 +1,6 @@
 -- Lemmas on the chunks of a queue.
-use Rattle.std.proofs.Common.{◌≡◌, ℕ, zero, suc, ◌+◌, ◌*◌, ◌≤◌, List, [], ◌∷◌, ◌++◌, length, take, drop, flat_map, All, deque_items, Global, refl, sym, ap, ◌∙◌, arith}
+use Rattle.std.proofs.Common.{◌≡◌, ℕ, zero, suc, ◌+◌, ◌*◌, ◌≤◌, List, [], ◌∷◌, ◌++◌, length, take, drop, flat_map, All, deque_items, Global, refl, sym, ap}
+use Rattle.std.proofs.Common.{◌∙◌, arith}
 use Rattle.std.proofs.lemmas.List.{length-append, length-take-le, append-nil, append_assoc, take-append-drop, drop-drop, nil_from_length}
 use Rattle.std.proofs.lemmas.List.Concat.{flat_map-append}
 use Rattle.std.proofs.lemmas.List.Elements.{All-head, All-tail, All-take}
@@ -13,7 +14,13 @@ module _ {T : Type 0} where
   pub length-full : (chunks : List (VecDeque T Global)) → All IsFull chunks → length (flat_map deque_items chunks) ≡ 1024 * length chunks
   length-full [] h = refl
   length-full (chunk ∷ chunks) h =
-      omega (arith, length-append chunk.items (flat_map deque_items chunks), chunk.ok.0, All-head IsFull chunk chunks h, length-full chunks (All-tail IsFull chunk chunks h))
+      omega (
+        arith,
+        length-append chunk.items (flat_map deque_items chunks),
+        chunk.ok.0,
+        All-head IsFull chunk chunks h,
+        length-full chunks (All-tail IsFull chunk chunks h),
+      )
 
   -- where nothing is in such chunks, there is none
   pub none-full : (chunks : List (VecDeque T Global)) → All IsFull chunks → length (flat_map deque_items chunks) ≡ 0 → chunks ≡ []
@@ -21,7 +28,8 @@ module _ {T : Type 0} where
 
   -- the first chunk, some full ones and nothing more, before the other full ones and the last
   pub chunks-apart : (first last : List T) (full : List (VecDeque T Global)) (count : ℕ)
-      → (first ++ (flat_map deque_items (take count full) ++ [])) ++ (flat_map deque_items (drop count full) ++ last) ≡ first ++ (flat_map deque_items full ++ last)
+      → (first ++ (flat_map deque_items (take count full) ++ [])) ++ (flat_map deque_items (drop count full) ++ last) ≡ first ++ (flat_map deque_items full
+      ++ last)
   chunks-apart first last full count =
       let taken : List T = flat_map deque_items (take count full) in
       let left : List T = flat_map deque_items (drop count full) in
@@ -40,15 +48,18 @@ take-add (suc m) n (x ∷ xs) = let e : suc m + n ≡ suc (m + n) = omega arith 
 
 module _ {T : Type 0} where
   -- a full chunk more
-  pub chunk-pushed : (full : List (VecDeque T Global)) (chunk : VecDeque T Global) → flat_map deque_items (full ++ chunk ∷ []) ≡ flat_map deque_items full ++ chunk.items
+  pub chunk-pushed : (full : List (VecDeque T Global)) (chunk : VecDeque T Global)
+      → flat_map deque_items (full ++ chunk ∷ []) ≡ flat_map deque_items full ++ chunk.items
   chunk-pushed full chunk = flat_map-append deque_items full (chunk ∷ []) ∙ ap (λ xs. flat_map deque_items full ++ xs) (append-nil chunk.items)
 
   pub chunk-begun : (first last : List T) (full new_full : List (VecDeque T Global)) (filled next : VecDeque T Global)
-      → new_full ≡ full ++ filled ∷ [] → filled.items ≡ last → next.items ≡ [] → first ++ (flat_map deque_items new_full ++ next.items) ≡ first ++ (flat_map deque_items full ++ last)
+      → new_full ≡ full ++ filled ∷ [] → filled.items ≡ last → next.items ≡ []
+      → first ++ (flat_map deque_items new_full ++ next.items) ≡ first ++ (flat_map deque_items full ++ last)
   chunk-begun first last full new_full filled next e f n = rw (e, chunk-pushed full filled, f, n, append-nil (flat_map deque_items full ++ last)) refl
 
   -- how many items there are
-  pub length-chunks : (chunks : Chunks T) (first last : List T) (full : List (VecDeque T Global)) → chunks.first.items ≡ first → chunks.full.items ≡ full → chunks.last.items ≡ last
+  pub length-chunks : (chunks : Chunks T) (first last : List T) (full : List (VecDeque T Global)) → chunks.first.items ≡ first → chunks.full.items ≡ full
+      → chunks.last.items ≡ last
       → All IsFull full → length (chunk_items chunks) ≡ length first + 1024 * length full + length last
   length-chunks chunks first last full e f l h =
       rw (e, f, l) (omega (arith, length-append first (flat_map deque_items full ++ last), length-append (flat_map deque_items full) last, length-full full h))
@@ -74,7 +85,12 @@ module _ {T : Type 0} (self taken from to new new_to : Chunks T) (count : ℕ) (
     (from_first : from.first ≡ taken.first) (from_full : from.full ≡ self.full) (from_last : from.last ≡ self.last)
     (to_first : to.first ≡ self.first) (to_full : to.full ≡ taken.full) (to_last : to.last ≡ taken.last) (moves : MovesFull count from to new new_to) where
   lengths : length taken.first.items + (length (flat_map deque_items taken.full.items) + length taken.last.items) ≡ 0
-  lengths = omega (arith, ap length empty, length-append taken.first.items (flat_map deque_items taken.full.items ++ taken.last.items), length-append (flat_map deque_items taken.full.items) taken.last.items)
+  lengths = omega (
+    arith,
+    ap length empty,
+    length-append taken.first.items (flat_map deque_items taken.full.items ++ taken.last.items),
+    length-append (flat_map deque_items taken.full.items) taken.last.items,
+  )
 
   pub left-first : new.first.items ≡ []
   left-first = ap deque_items (moves.first ∙ from_first) ∙ nil_from_length taken.first.items (omega (arith, lengths))
@@ -104,13 +120,15 @@ module _ {T : Type 0} (self taken from to new new_to : Chunks T) (count : ℕ) (
   pub taken-length : count ≤ length self.full.items → length (chunk_items new_to) ≡ length self.first.items + 1024 * count
   taken-length l =
       let cut : length (take count self.full.items) ≡ count = length-take-le count self.full.items l in
-      let all = length-chunks new_to self.first.items [] (take count self.full.items) taken-first taken-full taken-last (All-take IsFull count self.full.items kept.full) in
+      let all = length-chunks new_to self.first.items [] (take count self.full.items) taken-first taken-full taken-last (All-take IsFull count
+      self.full.items kept.full) in
       omega arith
 
   pub taken-length_all : (last_from last_to : Chunks T) → MovesLast new new_to last_from last_to → count ≤ length self.full.items
       → length (chunk_items last_to) ≡ length self.first.items + 1024 * count + length self.last.items
   taken-length_all last_from last_to m l =
       let cut : length (take count self.full.items) ≡ count = length-take-le count self.full.items l in
-      let all = length-chunks last_to self.first.items self.last.items (take count self.full.items) (ap deque_items m.to_first ∙ taken-first) (ap deque_items m.to_full ∙ taken-full)
+      let all = length-chunks last_to self.first.items self.last.items (take count self.full.items) (ap deque_items m.to_first
+      ∙ taken-first) (ap deque_items m.to_full ∙ taken-full)
       (m.moved ∙ left-last) (All-take IsFull count self.full.items kept.full) in
       omega arith

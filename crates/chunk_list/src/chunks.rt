@@ -1,4 +1,4 @@
-ghost use Rattle.std.specs.Prelude.{◌≡◌, ◌+◌, ◌-◌, ◌*◌, ◌<◌, ◌≤◌, ◌==◌, min, max, All, [], ◌∷◌, ◌++◌, length, take, drop, IsSome, OnOk, vec_len, if◌then◌else◌};
+ghost use Rattle.std.specs.Prelude.{◌≡◌, ◌+◌, ◌<◌, ◌≤◌, min, max, All, [], ◌∷◌, ◌++◌, length, IsSome, OnOk, vec_len};
 ghost use Rattle.std.specs.Option.{option_to_list};
 ghost use Rattle.std.specs.VecDeque.{deque_len, deque_capacity};
 ghost use Rattle.chunk_list.specs.Chunks.{chunk_items, open_places, places, IsSpare, AreKept};
@@ -39,7 +39,7 @@ fn add_spare<T>(spare: &mut Vec<VecDeque<T>>, count: usize) -> Result<(), AllocE
     ensures ok { OnOk result (count ≤ vec_len spare.new) }
 {
     let alloc = *spare.allocator();
-    spare.reserve(count)?;
+    spare.reserve(count.saturating_sub(spare.len()))?;
     while spare.len() < count {
         let empty = VecDeque::with_capacity(alloc, CHUNK)?;
         spare.push_reserved(empty);
@@ -130,7 +130,7 @@ impl<T: Drop> Chunks<T> {
         self.first.pop_front()
     }
 
-    /// Keeps an empty chunk for later items, if there is room for its pointer.
+    /// Keeps an empty chunk for later items, if there is room for its pointer; else its memory is freed.
     fn keep(&mut self, empty: VecDeque<T>)
         requires kept { AreKept self.old }
         requires empty { empty.items ≡ [] }

@@ -1,4 +1,4 @@
-ghost use Rattle.std.specs.Prelude.{◌≡◌, ◌+◌, ◌<◌, ◌≤◌, ◌==◌, max, [], ◌∷◌, ◌++◌, length, IsOk, IsSome, OnOk, OnErr};
+ghost use Rattle.std.specs.Prelude.{◌≡◌, ◌+◌, ◌<◌, ◌≤◌, ◌==◌, max, [], ◌∷◌, ◌++◌, length, drop, Some, slice_index_or, IsOk, OnOk, OnErr};
 ghost use Rattle.std.specs.Option.{option_to_list};
 
 use crate::QueueItems;
@@ -7,7 +7,8 @@ use std::alloc::{AllocError, Global};
 use std::marker::Model;
 
 /// A queue in chunks of [`crate::CHUNK`] items. Contracts see its items in order, and its room: how many more can be pushed
-/// without memory. A chunk whose items were popped is kept for later ones.
+/// without memory. Of the chunks whose items were popped it keeps some for later items, as many as reserving made places for in
+/// the list of the spare ones (4 at the least), and frees the others.
 #[derive(Drop)]
 pub struct ChunkQueue<T> {
     chunks: Chunks<T>,
@@ -92,8 +93,9 @@ impl<T: Drop> ChunkQueue<T> {
     /// Takes the first item out, in constant time. Takes no memory.
     #[inline]
     pub fn pop_front(&mut self) -> Option<T>
+        ensures value { (d : T) → 0 < length self.old.items → result ≡ Some (slice_index_or self.old.items 0 d) }
         ensures items { self.old.items ≡ option_to_list result ++ self.new.items }
-        ensures some { 0 < length self.old.items → IsSome result }
+        ensures rest { self.new.items ≡ drop 1 self.old.items }
         ensures room { self.new.room ≡ self.old.room }
     {
         let popped = self.chunks.pop_front();

@@ -14,7 +14,15 @@ pub returns-clause-places : goal.returns-clause-places
 returns-clause-places g c =
     let spares = All-pop IsSpare c.args.self.now.spare.items c.pop.new.self.items (Some c.in-Some.empty) c.in-Some.ensures.items c.requires.kept.spare in
     let none : deque_len c.in-Some.empty ≡ 0 = c.in-Some.empty.ok.0 ∙ ap length spares.1.0 in
-    omega (arith, c.requires.done, c.in-Some.ensures.cases, ap deque_capacity c.replace-filled.ensures.after, ap deque_len c.replace-filled.ensures.after, spares.1.1, none)
+    omega (
+      arith,
+      c.requires.done,
+      c.in-Some.ensures.cases,
+      ap deque_capacity c.replace-filled.ensures.after,
+      ap deque_len c.replace-filled.ensures.after,
+      spares.1.1,
+      none,
+    )
 
 pub returns-clause-open : goal.returns-clause-open
 returns-clause-open g c =

@@ -20,12 +20,20 @@ keep-requires-clause-empty g c =
 pub returns-clause-taken_kept : goal.returns-clause-taken_kept
 returns-clause-taken_kept g c =
     let is_full = All-head IsFull c.in-Some.chunk c.pop_front.new.self.items (rw c.in-Some.ensures.items at c.requires.kept.full) in
-    let spares = All-pop IsSpare c.args.taken.now.spare.items c.pop.new.self.items (Some c.in-Some-pop.empty) c.in-Some-pop.ensures.items c.requires.taken_kept.spare in
+    let spares = All-pop IsSpare c.args.taken.now.spare.items c.pop.new.self.items (Some c.in-Some-pop.empty) c.in-Some-pop.ensures.items
+    c.requires.taken_kept.spare in
     record {
       first = c.requires.taken_kept.first;
-      full = All-same IsFull _ _ c.push_back_reserved.ensures.items (All-push IsFull c.args.taken.now.full.items c.in-Some.chunk c.requires.taken_kept.full is_full);
+      full = All-same IsFull _ _ c.push_back_reserved.ensures.items (All-push IsFull c.args.taken.now.full.items c.in-Some.chunk c.requires.taken_kept.full
+          is_full);
       last = c.requires.taken_kept.last;
       in_use = c.requires.taken_kept.in_use;
       spare = spares.0;
-      pointers = omega (arith, c.requires.taken_kept.pointers, c.in-Some-pop.ensures.cases, c.push_back_reserved.ensures.len, c.push_back_reserved.ensures.capacity);
+      pointers = omega (
+        arith,
+        c.requires.taken_kept.pointers,
+        c.in-Some-pop.ensures.cases,
+        c.push_back_reserved.ensures.len,
+        c.push_back_reserved.ensures.capacity,
+      );
     }

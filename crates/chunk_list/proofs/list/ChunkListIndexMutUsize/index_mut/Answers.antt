@@ -20,7 +20,13 @@ invariant_of-self-lent g c w =
 pub returns : goal.returns
 returns g c =
     let within : c.args.place < c.self.inside.len = rw (counted _ _ _ c.self.invariant) (rw (← c.self.view_is) at c.requires) in (
-      (refl, λ w. rw (← c.self.view_is, write-items _ _ _ c.self.invariant c.args.place c.index_mut-chunk.result.now w within c.index_mut-chunk.ensures.value) refl),
+      (
+        refl,
+        λ w. rw (
+          ← c.self.view_is,
+          write-items _ _ _ c.self.invariant c.args.place c.index_mut-chunk.result.now w within c.index_mut-chunk.ensures.value,
+        ) refl,
+      ),
       record {
         writes_back = tt;
         value = rw (← c.self.view_is) (item-there _ _ _ c.self.invariant c.args.place c.index_mut-chunk.result.now c.index_mut.result.now within

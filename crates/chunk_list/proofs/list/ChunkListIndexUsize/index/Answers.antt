@@ -15,4 +15,5 @@ index-requires g c =
 pub returns : goal.returns
 returns g c =
     let within : c.args.place < c.self.inside.len = rw (counted _ _ _ c.self.invariant) (rw (← c.self.view_is) at c.requires) in
-    rw (← c.self.view_is) (item-there _ _ _ c.self.invariant c.args.place c.index-chunk.result.now c.index.result.now within c.index-chunk.ensures c.index.ensures)
+    rw (← c.self.view_is) (item-there _ _ _ c.self.invariant c.args.place c.index-chunk.result.now c.index.result.now within c.index-chunk.ensures
+    c.index.ensures)
