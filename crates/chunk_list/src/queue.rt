@@ -1,4 +1,4 @@
-ghost use Rattle.std.specs.Prelude.{◌≡◌, ◌+◌, ◌<◌, ◌≤◌, ◌==◌, max, [], ◌∷◌, ◌++◌, length, drop, Some, slice_index_or, IsOk, OnOk, OnErr};
+ghost use Rattle.std.specs.Prelude.{◌≡◌, ◌+◌, ◌<◌, ◌≤◌, ◌==◌, max, [], ◌∷◌, ◌++◌, length, drop, slice_get, slice_index_or, IfSome, IsOk, OnOk, OnErr};
 ghost use Rattle.std.specs.Option.{option_to_list};
 
 use crate::QueueItems;
@@ -93,7 +93,8 @@ impl<T: Drop> ChunkQueue<T> {
     /// Takes the first item out, in constant time. Takes no memory.
     #[inline]
     pub fn pop_front(&mut self) -> Option<T>
-        ensures value { (d : T) → 0 < length self.old.items → result ≡ Some (slice_index_or self.old.items 0 d) }
+        ensures value { result ≡ slice_get self.old.items 0 }
+        ensures lookup { IfSome result (λ item. item ≡ slice_index_or self.old.items 0 item) }
         ensures items { self.old.items ≡ option_to_list result ++ self.new.items }
         ensures rest { self.new.items ≡ drop 1 self.old.items }
         ensures room { self.new.room ≡ self.old.room }
