@@ -3,7 +3,6 @@ use Rattle.std.proofs.Common.{◌≡◌, ℕ, ◌+◌, ◌-◌, ◌*◌, ◌/◌
 use Rattle.std.proofs.Common.{vec_items, vec_len, vec_capacity, sym, ap, ◌∙◌, arith}
 use Rattle.std.proofs.lemmas.List.{length-set}
 use Rattle.std.proofs.lemmas.List.Elements.{All-get_or, All-set}
-use Rattle.std.proofs.lemmas.Option.{slice_get_read}
 use Rattle.std.specs.Global.{Vec}
 use Rattle.std.specs.Vec.{with_item}
 use Rattle.chunk_list.specs.Filled.{IsList}
@@ -26,7 +25,7 @@ module _ {T : Type 0} (chunks : List (Vec T)) (len room : ℕ) (list : IsList ch
   place-there place e l is = let has = chunk-length (place / 1024) e (chunk-there place l) is in omega arith
 
   pub item-there : (place : ℕ) (e : Vec T) (x : T) → place < len → e ≡ get_or chunks (place / 1024) e → x ≡ get_or e.items (place % 1024) x
-      → slice_get (flat_map vec_items chunks) place ≡ Some x
+      → x ≡ get_or (flat_map vec_items chunks) place x
   item-there place e x l is has =
       let split : 1024 * (place / 1024) + place % 1024 ≡ place = omega arith in
       let small : place % 1024 < 1024 = omega arith in
@@ -36,7 +35,7 @@ module _ {T : Type 0} (chunks : List (Vec T)) (len room : ℕ) (list : IsList ch
       (place % 1024) x) is in
       let at : get_or (flat_map vec_items chunks) (1024 * (place / 1024) + place % 1024) x ≡ get_or (flat_map vec_items chunks) place x = ap (λ k. get_or
       (flat_map vec_items chunks) k x) split in
-      slice_get_read (flat_map vec_items chunks) len place x counted l (has ∙ here ∙ sym same ∙ at)
+      has ∙ here ∙ sym same ∙ at
 
   -- the first chunk with a free place has one
   pub chunk-open : 0 < room → len / 1024 < length chunks

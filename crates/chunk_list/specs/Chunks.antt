@@ -40,4 +40,4 @@ module _ {T : Type 0} where
     pub kept : AreKept chunks
     pub counted : len ≡ length (chunk_items chunks)
     pub has_room : room ≤ places chunks
-    pub countable : len + room < 2 ^ 64
+    pub countable : len + room < 2 ^ 63

@@ -19,7 +19,7 @@ module _ {T : Type 0} where
     pub filled : AreFilled len chunks
     pub places : HavePlaces chunks
     pub has_room : len + room ≤ 1024 * length chunks
-    pub countable : len + room < 2 ^ 64
+    pub countable : len + room < 2 ^ 63
 
   -- empty chunks were added behind the others
   pub record Grows (old new : List (Vec T)) : Type 0 where

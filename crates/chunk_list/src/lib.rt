@@ -19,3 +19,6 @@ pub use queue_items::QueueItems;
 
 /// How many items a chunk has places for.
 pub const CHUNK: usize = 1_024;
+
+/// More items than a list or a queue has, with those that it has room for.
+const ITEMS_END: usize = 9_223_372_036_854_775_808;

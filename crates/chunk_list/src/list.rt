@@ -1,9 +1,9 @@
-ghost use Rattle.std.specs.Prelude.{◌≡◌, ◌+◌, ◌-◌, ◌<◌, ◌≤◌, ◌==◌, max, [], ◌∷◌, ◌++◌, length, slice_get, Some, IsOk, OnOk, OnErr, vec_len};
+ghost use Rattle.std.specs.Prelude.{◌≡◌, ◌+◌, ◌-◌, ◌^◌, ◌<◌, ◌≤◌, ◌==◌, max, [], ◌∷◌, ◌++◌, length, slice_get, slice_index_or, IsOk, OnOk, OnErr, vec_len};
 ghost use Rattle.std.specs.Borrow.{sem};
 ghost use Rattle.std.specs.Option.{option_copied};
 ghost use Rattle.chunk_list.specs.Filled.{Grows};
 
-use crate::{CHUNK, ListItems};
+use crate::{CHUNK, ITEMS_END, ListItems};
 use std::alloc::{AllocError, Global};
 use std::marker::Model;
 use std::ops::{Index, IndexMut};
@@ -66,7 +66,8 @@ impl<T> ChunkList<T> {
     /// How many items there are.
     #[inline]
     pub fn len(&self) -> usize
-        ensures { result ≡ length self.now.items }
+        ensures value { result ≡ length self.now.items }
+        ensures few { result < 2 ^ 63 }
     {
         self.len
     }
@@ -79,19 +80,20 @@ impl<T> ChunkList<T> {
     }
 
     /// Makes room for that many more items. It takes whole chunks, and no memory where the room is there; no item moves, only the
-    /// pointers to the chunks may be copied, 24 bytes for each. A refusal changes nothing.
+    /// pointers to the chunks may be copied, 24 bytes for each. A refusal changes nothing; 2^63 items are refused too.
     pub fn reserve(&mut self, additional: usize) -> Result<(), AllocError>
-        ensures ok { OnOk result (self.new ≡ record self.old { room = max self.old.room additional }) }
+        ensures items { self.new.items ≡ self.old.items }
+        ensures ok { OnOk result (self.new.room ≡ max self.old.room additional) }
         ensures err { OnErr result (self.new ≡ self.old) }
         ensures succeeds { additional ≤ self.old.room → IsOk result }
     {
         if additional <= self.room {
             return Ok(());
         }
-        let Some(end) = self.len.checked_add(additional) else {
+        if ITEMS_END - self.len <= additional {
             return Err(AllocError);
-        };
-        add_chunks(&mut self.chunks, end.div_ceil(CHUNK))?;
+        }
+        add_chunks(&mut self.chunks, (self.len + additional).div_ceil(CHUNK))?;
         self.room = additional;
         Ok(())
     }
@@ -142,7 +144,7 @@ impl<T> Index<usize> for ChunkList<T> {
 
     ghost can_index = { λ list place. place < length list.items };
 
-    ghost index_gives = { λ list place item. slice_get list.items place ≡ Some item };
+    ghost index_gives = { λ list place item. item ≡ slice_index_or list.items place item };
 
     #[inline]
     fn index(&self, place: usize) -> &T {
@@ -158,7 +160,7 @@ impl<T> IndexMut<usize> for ChunkList<T> {
     fn index_mut(&mut self, place: usize) -> &mut T
         requires { place < length self.old.items }
         ensures* writes_back { sem 𝓛 (lends_item T.row self.entry place result) }
-        ensures value { slice_get self.old.items place ≡ Some result.now }
+        ensures value { result.now ≡ slice_index_or self.old.items place result.now }
     {
         let chunk = &mut self.chunks[place / CHUNK];
         &mut chunk[place % CHUNK]

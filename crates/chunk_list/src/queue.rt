@@ -1,8 +1,8 @@
-ghost use Rattle.std.specs.Prelude.{◌≡◌, ◌+◌, ◌<◌, ◌≤◌, ◌==◌, max, [], ◌∷◌, ◌++◌, length, drop, slice_get, slice_index_or, IfSome, IsOk, OnOk, OnErr};
+ghost use Rattle.std.specs.Prelude.{◌≡◌, ◌+◌, ◌^◌, ◌<◌, ◌≤◌, ◌==◌, max, [], ◌∷◌, ◌++◌, length, drop, slice_get, slice_index_or, IfSome, IsOk, OnOk, OnErr};
 ghost use Rattle.std.specs.Option.{option_to_list};
 
-use crate::QueueItems;
 use crate::chunks::Chunks;
+use crate::{ITEMS_END, QueueItems};
 use std::alloc::{AllocError, Global};
 use std::marker::Model;
 
@@ -48,7 +48,8 @@ impl<T: Drop> ChunkQueue<T> {
     /// How many items there are.
     #[inline]
     pub fn len(&self) -> usize
-        ensures { result ≡ length self.now.items }
+        ensures value { result ≡ length self.now.items }
+        ensures few { result < 2 ^ 63 }
     {
         self.len
     }
@@ -61,16 +62,17 @@ impl<T: Drop> ChunkQueue<T> {
     }
 
     /// Makes room for that many more items. It takes whole chunks, and no memory where the room is there; no item moves, only the
-    /// pointers to the chunks may be copied. A refusal changes nothing.
+    /// pointers to the chunks may be copied. A refusal changes nothing; 2^63 items are refused too.
     pub fn reserve(&mut self, additional: usize) -> Result<(), AllocError>
-        ensures ok { OnOk result (self.new ≡ record self.old { room = max self.old.room additional }) }
+        ensures items { self.new.items ≡ self.old.items }
+        ensures ok { OnOk result (self.new.room ≡ max self.old.room additional) }
         ensures err { OnErr result (self.new ≡ self.old) }
         ensures succeeds { additional ≤ self.old.room → IsOk result }
     {
         if additional <= self.room {
             return Ok(());
         }
-        if self.len.checked_add(additional).is_none() {
+        if ITEMS_END - self.len <= additional {
             return Err(AllocError);
         }
         self.chunks.reserve(additional)?;
