@@ -1,9 +1,10 @@
 -- The heads of RIDs in the arrays of their pages.
-use Rattle.std.proofs.Common.{◌≡◌, ℕ, zero, suc, ◌+◌, ◌-◌, ◌<◌, ◌≤◌, Bool, true, false, List, [], ◌∷◌, ◌++◌, length, map, get_or, set, replicate, Option, Some, None}
+use Rattle.std.proofs.Common.{◌≡◌, ℕ, zero, suc, ◌+◌, ◌-◌, ◌<◌, ◌≤◌, Bool, true, false, List, [], ◌∷◌, ◌++◌, length, map, get_or, set, take, replicate, Option, Some, None}
 use Rattle.std.proofs.Common.{refl, sym, ap, ◌∙◌, arith, inl, inr}
 use Rattle.std.specs.Prelude.{◌==◌, if◌then◌else◌, IfSome}
 use Rattle.std.proofs.lemmas.Bool.{cases_eq, cases_lt, and_from, eq-eqb, false_from_ne_true, cond-true, cond-false}
 use Rattle.std.proofs.lemmas.List.{get_or-set_same, get_or-set_other, get_or_read, get_or_past, set-get_or, map-set, length-set, append_assoc, length-append, length-replicate}
+use Rattle.std.proofs.lemmas.List.{map-append, take_all, length-map}
 use Rattle.keybytes.specs.Rids.{same_rid}
 use Rattle.keybytes.specs.declared.rid.Rid.{Rid}
 use Rattle.keybytes.proofs.SameRids.{same_rid-true}
@@ -107,6 +108,18 @@ at_padded [] (suc n) zero d = refl
 at_padded [] (suc n) (suc k) d = at_padded [] n k d
 at_padded (x ∷ xs) n zero d = refl
 at_padded (x ∷ xs) n (suc k) d = at_padded xs n k d
+
+-- what is made of a list of which some are all, and of copies at its end
+pub made_padded : {X Y : Type 0} (f : X → Y) (xs : List X) (n : ℕ) (x : X) → length xs ≤ n
+    → map f (take n xs ++ replicate (n - length xs) x) ≡ map f xs ++ replicate (n - length (map f xs)) (f x)
+made_padded f xs n x less =
+    map-append f (take n xs) (replicate (n - length xs) x)
+    ∙ ap (λ list. list ++ map f (replicate (n - length xs) x)) (ap (map f) (take_all n xs less))
+    ∙ ap (λ list. map f xs ++ list) (made_copies f (n - length xs) x ∙ ap (λ k. replicate (n - k) (f x)) (sym (length-map xs f)))
+  where
+    made_copies : {X Y : Type 0} (f : X → Y) (n : ℕ) (x : X) → map f (replicate n x) ≡ replicate n (f x)
+    made_copies f zero x = refl
+    made_copies f (suc n) x = ap (λ list. f x ∷ list) (made_copies f n x)
 
 -- pages that have the slots that they had, and more, without a head
 pub record Grown (old new : List (List RidHead)) : Type 0 where
