@@ -54,8 +54,8 @@ written_placed log pages rid n same is =
     let there : is_write_at rid (record_at log n) ≡ true = write_there rid (record_at log n) is in
     let within : (0 < n) × (n < length log + 1) = write_within log n (is_write_at rid) refl there in
     place_of_head pages rid (λ none.
-        let last : last_at log rid (length log + 1) ≡ None = ap (λ (head : RidHead). head.last) (sym same ∙ none) in
-        false≢true (sym (last_below_none (λ k. is_write_at rid (record_at log k)) (length log + 1) last n within.1) ∙ there))
+    let last : last_at log rid (length log + 1) ≡ None = ap (λ (head : RidHead). head.last) (sym same ∙ none) in
+    false≢true (sym (last_below_none (λ k. is_write_at rid (record_at log k)) (length log + 1) last n within.1) ∙ there))
 
 placed : (log : List LogRec) (pages : List (List RidHead)) (added : LogRec) (rid : Rid) → rid_head_in pages rid ≡ rid_head log rid
     → HasPlaceFor added (places_of pages) → changed_rid log added ≡ Some rid → HasPlace rid (places_of pages)
