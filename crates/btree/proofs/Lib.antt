@@ -20,3 +20,6 @@ pub mod Weaves
 pub mod Sets
 pub mod Keys
 pub mod Crosses
+pub mod Changing
+pub mod Ordered
+pub mod Turns

@@ -1,0 +1,95 @@
+//! Changes of a tree, and what a walk made of them.
+ghost use Rattle.std.specs.Prelude.{◌≡◌, ◌≤◌, ◌<◌, ◌+◌, ◌^◌, length, take};
+ghost use Rattle.tree_nodes.specs.Lists.{front_count};
+ghost use Rattle.tree_nodes.specs.Order.{is_before};
+ghost use Rattle.btree.specs.Changes.{AreInOrder, both};
+
+use keybytes::Pair;
+use std::collections::VecDeque;
+use tree_nodes::is_before;
+
+/// A pair that is put into a tree, or taken out of it.
+#[derive(Drop)]
+pub struct Change {
+    /// Whether the pair is put in.
+    pub puts_in: bool,
+    pub pair: Pair,
+}
+
+/// What was done.
+#[derive(Drop)]
+pub struct Steps {
+    /// How many changes were made.
+    pub taken: usize,
+    /// How many of them put in a pair that wasn't there.
+    pub added: usize,
+    /// How many of them took out a pair that was there.
+    pub removed: usize,
+}
+
+impl Steps {
+    /// Nothing.
+    pub fn none() -> Steps
+        ensures { result ≡ record { taken = 0; added = 0; removed = 0 } }
+    {
+        Steps {
+            taken: 0,
+            added: 0,
+            removed: 0,
+        }
+    }
+
+    /// That, and then more.
+    pub fn then(self, more: Steps) -> Steps
+        requires taken { self.taken + more.taken < 2 ^ 64 }
+        requires added { self.added + more.added < 2 ^ 64 }
+        requires removed { self.removed + more.removed < 2 ^ 64 }
+        ensures { result ≡ both self more }
+    {
+        Steps {
+            taken: self.taken + more.taken,
+            added: self.added + more.added,
+            removed: self.removed + more.removed,
+        }
+    }
+}
+
+/// How many changes at the front of the queue are in the order of their pairs.
+pub fn count_in_order(queue: &VecDeque<Change>) -> usize
+    ensures within { result ≤ length queue.now.items }
+    ensures order { AreInOrder (take result queue.now.items) }
+    ensures some { 0 < length queue.now.items → 0 < result }
+{
+    let len = queue.len();
+    if len == 0 {
+        return 0;
+    }
+    let mut count = 1;
+    while count < len {
+        let last = &queue[count - 1].pair;
+        if is_before(&queue[count].pair, &last.key, last.rid) {
+            break;
+        }
+        count += 1;
+    }
+    count
+}
+
+/// How many of that many changes, which are in order, stand before the pair.
+pub fn count_before(queue: &VecDeque<Change>, count: usize, pair: &Pair) -> usize
+    requires within { count ≤ length queue.now.items }
+    requires order { AreInOrder (take count queue.now.items) }
+    ensures { result ≡ front_count (λ change. is_before change.pair pair.now) (take count queue.now.items) }
+{
+    let mut low = 0;
+    let mut high = count;
+    while low < high {
+        let middle = low + (high - low) / 2;
+        if is_before(&queue[middle].pair, &pair.key, pair.rid) {
+            low = middle + 1;
+        } else {
+            high = middle;
+        }
+    }
+    low
+}
