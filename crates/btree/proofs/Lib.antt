@@ -22,4 +22,5 @@ pub mod Keys
 pub mod Crosses
 pub mod Changing
 pub mod Ordered
+pub mod Stops
 pub mod Turns

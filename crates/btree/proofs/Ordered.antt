@@ -1,7 +1,7 @@
 -- Changes that stand in the order of their pairs.
 use Rattle.std.proofs.Common.{◌≡◌, ℕ, zero, suc, ◌+◌, ◌<◌, ◌≤◌, Bool, true, false, not, List, [], ◌∷◌, ◌++◌, ◌-◌, ◌⊎◌, length, take, get_or, add-one, refl, sym, ap, ◌∙◌, subst, inl, inr, arith}
 use Rattle.std.proofs.lemmas.Bool.{cases_Bool, both_ways, not_from_false, not-true}
-use Rattle.std.proofs.lemmas.List.{get_or_default, length-take}
+use Rattle.std.proofs.lemmas.List.{get_or_default, get_or-take, length-take}
 use Rattle.keybytes.specs.declared.pair.Pair.{Pair}
 use Rattle.tree_nodes.specs.Lists.{In, IsRising, front_count}
 use Rattle.tree_nodes.specs.Order.{is_before}
@@ -12,17 +12,17 @@ use Rattle.btree.specs.Changes.{not_behind, AreInOrder}
 use Rattle.btree.proofs.MarkFacts.{le_lt}
 
 -- a front of changes that are in order
-in_take : {X : Type 0} (x : X) (m n : ℕ) (xs : List X) → m ≤ n → In x (take m xs) → In x (take n xs)
-in_take x zero n xs h i = absurd i
-in_take x (suc m) zero xs h i = absurd (omega arith)
-in_take x (suc m) (suc n) [] h i = absurd i
-in_take x (suc m) (suc n) (y ∷ xs) h i = elim i [ inl e ↦ inl e | inr k ↦ inr (in_take x m n xs (omega arith) k) ]
+pub in_more : {X : Type 0} (x : X) (m n : ℕ) (xs : List X) → m ≤ n → In x (take m xs) → In x (take n xs)
+in_more x zero n xs h i = absurd i
+in_more x (suc m) zero xs h i = absurd (omega arith)
+in_more x (suc m) (suc n) [] h i = absurd i
+in_more x (suc m) (suc n) (y ∷ xs) h i = elim i [ inl e ↦ inl e | inr k ↦ inr (in_more x m n xs (omega arith) k) ]
 
 pub order_take : (m n : ℕ) (cs : List Change) → m ≤ n → AreInOrder (take n cs) → AreInOrder (take m cs)
 order_take zero n cs h r = tt
 order_take (suc m) zero cs h r = absurd (omega arith)
 order_take (suc m) (suc n) [] h r = tt
-order_take (suc m) (suc n) (c ∷ cs) h r = ((λ d i. r.0 d (in_take d m n cs (omega arith) i)), order_take m n cs (omega arith) r.1)
+order_take (suc m) (suc n) (c ∷ cs) h r = ((λ d i. r.0 d (in_more d m n cs (omega arith) i)), order_take m n cs (omega arith) r.1)
 
 -- what is left of them
 pub order_rest : (n k : ℕ) (made rest : List Change) → length made + k ≡ n → AreInOrder (take n (made ++ rest)) → AreInOrder (take k rest)
@@ -103,12 +103,6 @@ order_more (suc n) cs last next some h is_last is_next e r =
 
 -- ---- those that stand before a pair
 
-get_take : (m n : ℕ) (cs : List Change) (d : Change) → m < n → get_or (take n cs) m d ≡ get_or cs m d
-get_take m zero cs d h = absurd (omega arith)
-get_take m (suc n) [] d h = refl
-get_take zero (suc n) (c ∷ cs) d h = refl
-get_take (suc m) (suc n) (c ∷ cs) d h = get_take m n cs d (omega arith)
-
 down : (q : Pair) (x y : Change) → not_behind x y ≡ true → is_before y.pair q ≡ true → is_before x.pair q ≡ true
 down q x y l k = le_lt x.pair y.pair q (not-true _ l) k
 
@@ -119,7 +113,7 @@ pub lower_more :
     (n : ℕ) (cs : List Change) (q : Pair) (m : ℕ) (c : Change) → AreInOrder (take n cs) → n ≤ length cs → m < n → c ≡ get_or cs m c → is_before c.pair q ≡ true
     → m + 1 ≤ count_lower q (take n cs)
 lower_more n cs q m c r l h is e =
-    let here : get_or (take n cs) m c ≡ c = get_take m n cs c h ∙ sym is in
+    let here : get_or (take n cs) m c ≡ c = get_or-take n cs m c h ∙ sym is in
     let passes : is_before (get_or (take n cs) m c).pair q ≡ true = ap (λ (x : Change). is_before x.pair q) here ∙ e in
     let more : m < count_lower q (take n cs) = front_passes not_behind (λ x. is_before x.pair q) (down q) (take n cs) m c r (omega (arith, length-take n cs)) passes in
     omega arith
@@ -128,7 +122,7 @@ pub lower_end :
     (n : ℕ) (cs : List Change) (q : Pair) (m : ℕ) (c : Change) → n ≤ length cs → m < n → c ≡ get_or cs m c → is_before c.pair q ≡ false
     → count_lower q (take n cs) ≤ m
 lower_end n cs q m c l h is e =
-    let here : get_or (take n cs) m c ≡ c = get_take m n cs c h ∙ sym is in
+    let here : get_or (take n cs) m c ≡ c = get_or-take n cs m c h ∙ sym is in
     front_fails (λ x. is_before x.pair q) (take n cs) m c (omega (arith, length-take n cs)) (ap (λ (x : Change). is_before x.pair q) here ∙ e)
 
 front_all : (q : Pair) (cs : List Change) (c : Change) → In c (take (count_lower q cs) cs) → is_before c.pair q ≡ true

@@ -21,7 +21,7 @@ use Rattle.btree.proofs.Around.{Around}
 use Rattle.btree.proofs.Changing.{Belong, rising_changed, changed-middle}
 use Rattle.btree.proofs.FanFacts.{AtFan, at_fan, around_fan, child_height}
 use Rattle.btree.proofs.MarkFacts.{mark_before-strict, pairs_in-append}
-use Rattle.btree.proofs.Ordered.{in_front, none_before_first}
+use Rattle.btree.proofs.Ordered.{in_more, in_front, none_before_first}
 use Rattle.btree.proofs.Removed.{Fanned, with_child, fanned_with}
 
 -- what is before a pair is before one that isn't before it
@@ -32,13 +32,13 @@ still_below y p q e f = elim (cases_Bool (is_before p q)) [
 ]
 
 -- some change, where a list has none
-abbrev no_change : Change
+abbrev pub no_change : Change
 no_change = record { puts_in = false; pair = record { key = []; rid = record { page = 0; slot = 0 } } }
 
 abbrev no_child : Seen
 no_child = record { marks = []; height = 0; levels = [] }
 
-abbrev first_pair : List Change → Pair
+abbrev pub first_pair : List Change → Pair
 first_pair queue = (get_or queue 0 no_change).pair
 
 module _ {fan : Fan Seen} {queue : List Change} {count : ℕ} {share : Share} (f : IsFanned fan) (s : IsShare (separators_of fan) queue count share) where
@@ -73,15 +73,21 @@ module _ {fan : Fan Seen} {queue : List Change} {count : ℕ} {share : Share} (f
   ]
 
   -- the changes of a share belong to its child
+  pub belong_each : AreInOrder (take count queue) → (cs : List Change) → ((c : Change) → In c cs → In c (take share.count queue)) → Belong cs place.l place.r
+  belong_each order cs there = record {
+    below = λ c i y j. still_below y (first_pair queue) c.pair (place.below y j)
+        (none_before_first count queue no_change c order (in_more c share.count count queue s.few (there c i)));
+    above = λ c i y j. above c (there c i) y j;
+  }
+
   pub belong : AreInOrder (take count queue) → (made rest : List Change) → queue ≡ made ++ rest → length made ≤ share.count → Belong made place.l place.r
   belong order made rest is few =
-      let there : (n : ℕ) → length made ≤ n → (c : Change) → In c made → In c (take n queue) = λ n h c i.
-      let I : List Change → Type 0 = λ cs. In c (take n cs) in subst I (sym is) (in_front c n made rest h i) in
-      record {
-        below = λ c i y j. still_below y (first_pair queue) c.pair (place.below y j)
-            (none_before_first count queue no_change c order (there count (omega (arith, few, s.few)) c i));
-        above = λ c i y j. above c (there share.count few c i) y j;
-      }
+      let there : (c : Change) → In c made → In c (take share.count queue) = λ c i.
+      let I : List Change → Type 0 = λ cs. In c (take share.count cs) in subst I (sym is) (in_front c share.count made rest few i) in
+      belong_each order made there
+
+  pub belong_one : AreInOrder (take count queue) → (c : Change) → In c (take share.count queue) → Belong (c ∷ []) place.l place.r
+  belong_one order c i = belong_each order (c ∷ []) (λ d j. elim j [ inl is ↦ rw is i | inr k ↦ absurd k ])
 
 -- how many pairs stand in the middle
 count_middle : (l w v r : List Mark) (a b : ℕ) → length (pairs_in v) + b ≡ length (pairs_in w) + a

@@ -1,14 +1,14 @@
 -- Changes of a tree, made one after another.
-use Rattle.std.specs.Prelude.{◌≡◌, ◌≤◌, ◌<◌, ◌+◌, ℕ, Bool, true, not, if◌then◌else◌, List, [], ◌∷◌, ◌++◌, Some, length, take, get_or}
+use Rattle.std.specs.Prelude.{◌≡◌, ◌≤◌, ◌<◌, ◌+◌, ℕ, suc, Bool, true, not, if◌then◌else◌, List, [], ◌∷◌, ◌++◌, Some, length, take, get_or}
 use Rattle.std.specs.FinSet.{FinSet}
 use Rattle.keybytes.specs.Pairs.{pair_cmp, set_of, with_pair, without_pair}
 use Rattle.keybytes.specs.declared.pair.Pair.{Pair}
-use Rattle.tree_nodes.specs.Lists.{In, IsRising, front_count, put, without}
+use Rattle.tree_nodes.specs.Lists.{In, IsRising, front_count, has, put, without}
 use Rattle.tree_nodes.specs.Order.{is_before}
 use Rattle.btree.specs.declared.change.Change.{Change}
 use Rattle.btree.specs.declared.change.Steps.{Steps}
 use Rattle.btree.specs.declared.walking.Share.{Share}
-use Rattle.btree.specs.Marks.{Mark, Item, mark_before, pairs_in}
+use Rattle.btree.specs.Marks.{Mark, Item, Between, mark_before, pairs_in}
 
 -- a set of pairs once a change is made
 abbrev pub changed_by : Change → FinSet pair_cmp → FinSet pair_cmp
@@ -56,6 +56,18 @@ pub record Walked (count : ℕ) (old new : List Mark) (queue rest : List Change)
   pub counted : length (pairs_in new) + steps.removed ≡ length (pairs_in old) + steps.added
   pub few_added : steps.added ≤ steps.taken
   pub few_removed : steps.removed ≤ steps.taken
+
+-- how many pairs stand in the leaf that a pair belongs to, with n of them in front of these marks
+abbrev pub leaf_count : ℕ → Pair → List Mark → ℕ
+leaf_count n p [] = n
+leaf_count n p (Item q ∷ marks) = leaf_count (suc n) p marks
+leaf_count n p (Between s ∷ marks) = if is_before p s then n else leaf_count 0 p marks
+
+-- the first change puts in a pair that isn't there, into a leaf of 32 pairs
+abbrev pub WantsSplit : List Change → List Mark → Type 0
+WantsSplit [] marks = ⊥
+WantsSplit (change ∷ changes) marks =
+    (change.puts_in ≡ true) × (has mark_before (Item change.pair) marks ≡ false) × (leaf_count 0 change.pair marks ≡ 32)
 
 -- the first change belongs to the child at that place, and so do those before the separator behind it
 pub record IsShare (separators : List Pair) (changes : List Change) (count : ℕ) (share : Share) : Type 0 where

@@ -1,5 +1,5 @@
-ghost use Rattle.std.specs.Prelude.{◌≡◌, ◌≤◌, [], ◌∷◌, ◌++◌, suc, not, length, take, vec_len};
-ghost use Rattle.btree.specs.Changes.{AreInOrder, Walked};
+ghost use Rattle.std.specs.Prelude.{◌≡◌, ◌≤◌, ◌<◌, [], ◌∷◌, ◌++◌, suc, not, length, take, vec_len};
+ghost use Rattle.btree.specs.Changes.{AreInOrder, Walked, WantsSplit};
 ghost use Rattle.btree.specs.From.{LeafFrom, from, from_next, NextAbove};
 ghost use Rattle.btree.specs.Growing.{LevelsAfter};
 ghost use Rattle.btree.specs.Levels.{levels_over};
@@ -164,6 +164,7 @@ impl Node {
         requires within { count ≤ length queue.old.items }
         requires order { AreInOrder (take count queue.old.items) }
         ensures walked { Walked count self.old.marks self.new.marks queue.old.items queue.new.items result }
+        ensures stops { result.taken < count → WantsSplit queue.new.items self.new.marks }
         ensures height { self.new.height ≡ self.old.height }
     {
         match &mut self.kind {
@@ -176,7 +177,7 @@ impl Node {
                     let stops = more.taken < share.count;
                     steps = steps.then(more);
                     if stops {
-                        break;
+                        return steps;
                     }
                 }
                 steps

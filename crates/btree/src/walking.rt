@@ -2,7 +2,7 @@
 ghost use Rattle.std.specs.Prelude.{◌≡◌, ◌≤◌, ◌<◌, length, take, slice_index_or};
 ghost use Rattle.tree_nodes.specs.Fans.{separators_of, IsFan};
 ghost use Rattle.tree_nodes.specs.Order.{PairsRise};
-ghost use Rattle.btree.specs.Changes.{AreInOrder, Walked, IsShare};
+ghost use Rattle.btree.specs.Changes.{AreInOrder, Walked, WantsSplit, IsShare};
 ghost use Rattle.btree.specs.Marks.{items_of};
 
 use crate::change::{Change, Steps, count_before};
@@ -14,13 +14,14 @@ use tree_nodes::{Fan, LEAF_MAX, Leaf};
 /// Makes changes from the front of the queue, at most that many, up to one for which the leaf has no room.
 pub fn apply_to_leaf(leaf: &mut Leaf, queue: &mut VecDeque<Change>, count: usize) -> Steps
     requires { count ≤ length queue.old.items }
-    ensures { Walked count (items_of leaf.old) (items_of leaf.new) queue.old.items queue.new.items result }
+    ensures walked { Walked count (items_of leaf.old) (items_of leaf.new) queue.old.items queue.new.items result }
+    ensures stops { result.taken < count → WantsSplit queue.new.items (items_of leaf.new) }
 {
     let mut steps = Steps::none();
     while steps.taken < count {
         let step = apply_first(leaf, queue);
         if step.taken == 0 {
-            break;
+            return steps;
         }
         steps = steps.then(step);
     }
@@ -30,7 +31,8 @@ pub fn apply_to_leaf(leaf: &mut Leaf, queue: &mut VecDeque<Change>, count: usize
 /// Makes the first change, if the leaf has room for it.
 fn apply_first(leaf: &mut Leaf, queue: &mut VecDeque<Change>) -> Steps
     requires { 0 < length queue.old.items }
-    ensures { Walked 1 (items_of leaf.old) (items_of leaf.new) queue.old.items queue.new.items result }
+    ensures walked { Walked 1 (items_of leaf.old) (items_of leaf.new) queue.old.items queue.new.items result }
+    ensures stops { result.taken < 1 → WantsSplit queue.new.items (items_of leaf.new) }
 {
     let Some(first) = queue.front() else {
         unreachable!()
@@ -64,7 +66,8 @@ fn apply_first(leaf: &mut Leaf, queue: &mut VecDeque<Change>) -> Steps
 fn take_out(leaf: &mut Leaf, queue: &mut VecDeque<Change>) -> Steps
     requires some { 0 < length queue.old.items }
     requires out { (d : Change) → (slice_index_or queue.old.items 0 d).puts_in ≡ false }
-    ensures { Walked 1 (items_of leaf.old) (items_of leaf.new) queue.old.items queue.new.items result }
+    ensures walked { Walked 1 (items_of leaf.old) (items_of leaf.new) queue.old.items queue.new.items result }
+    ensures one { result.taken ≡ 1 }
 {
     let Some(change) = queue.pop_front() else {
         unreachable!()
