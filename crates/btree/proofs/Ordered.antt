@@ -1,14 +1,16 @@
 -- Changes that stand in the order of their pairs.
-use Rattle.std.proofs.Common.{◌≡◌, ℕ, zero, suc, ◌+◌, ◌<◌, ◌≤◌, Bool, true, false, not, List, [], ◌∷◌, ◌++◌, ◌-◌, ◌⊎◌, length, take, get_or, add-one, refl, sym, ap, ◌∙◌, subst, inl, inr, arith}
-use Rattle.std.proofs.lemmas.Bool.{cases_Bool, both_ways, not_from_false, not-true}
+use Rattle.std.proofs.Common.{◌≡◌, ℕ, zero, suc, ◌+◌, ◌<◌, ◌≤◌, Bool, true, false, not, List, [], ◌∷◌, ◌++◌, ◌-◌, ◌⊎◌, length, take, get_or, length-append, add-one, refl, sym, ap, ◌∙◌, subst, inl, inr, arith}
+use Rattle.std.proofs.lemmas.Bool.{cases_Bool, both_ways, not_from_false, not-true, not-false}
 use Rattle.std.proofs.lemmas.List.{get_or_default, get_or-take, length-take}
 use Rattle.keybytes.specs.declared.pair.Pair.{Pair}
 use Rattle.tree_nodes.specs.Lists.{In, IsRising, front_count}
 use Rattle.tree_nodes.specs.Order.{is_before}
-use Rattle.tree_nodes.proofs.Fronts.{front_fails, front_passes}
+use Rattle.tree_nodes.proofs.Fronts.{front_count-le-length, front_fails, front_passes}
 use Rattle.tree_nodes.proofs.Strict.{before-strict}
 use Rattle.btree.specs.declared.change.Change.{Change}
-use Rattle.btree.specs.Changes.{not_behind, AreInOrder}
+use Rattle.btree.specs.declared.change.Steps.{Steps}
+use Rattle.btree.specs.Changes.{not_behind, AreInOrder, Made, Walked, IsShare}
+use Rattle.btree.specs.Marks.{Mark}
 use Rattle.btree.proofs.MarkFacts.{le_lt}
 
 -- a front of changes that are in order
@@ -97,7 +99,8 @@ pub order_more :
     → is_before next.pair last.pair ≡ false → AreInOrder (take n cs) → AreInOrder (take (n + 1) cs)
 order_more zero cs last next some h is_last is_next e r = absurd (omega arith)
 order_more (suc n) cs last next some h is_last is_next e r =
-    let other : get_or cs n next ≡ last = get_or_default cs n next last (omega arith) ∙ sym is_last in
+    let back : suc n - 1 ≡ n = omega arith in
+    let other : get_or cs n next ≡ last = get_or_default cs n next last (omega arith) ∙ sym (is_last ∙ ap (λ (k : ℕ). get_or cs k last) back) in
     let up : not_behind (get_or cs n next) (get_or cs (suc n) next) ≡ true = not_from_false _ (rw (other, ← is_next) e) in
     rw add-one (order_suc n cs next h r up)
 
@@ -108,6 +111,9 @@ down q x y l k = le_lt x.pair y.pair q (not-true _ l) k
 
 abbrev pub count_lower : Pair → List Change → ℕ
 count_lower q cs = front_count (λ c. is_before c.pair q) cs
+
+pub count_lower-le : (n : ℕ) (cs : List Change) (q : Pair) → count_lower q (take n cs) ≤ length (take n cs)
+count_lower-le n cs q = front_count-le-length (λ c. is_before c.pair q) (take n cs)
 
 pub lower_more :
     (n : ℕ) (cs : List Change) (q : Pair) (m : ℕ) (c : Change) → AreInOrder (take n cs) → n ≤ length cs → m < n → c ≡ get_or cs m c → is_before c.pair q ≡ true
@@ -149,9 +155,44 @@ pub front_stops : {X : Type 0} (test : X → Bool) (xs : List X) (d : X) (at : �
 front_stops test xs d at e h =
     let P : ℕ → Type 0 = λ m. test (get_or xs m d) ≡ false in
     subst P (sym e) (stops test xs d (omega (arith, e))) where
-  stops : {X : Type 0} (test : X → Bool) (xs : List X) (d : X) → front_count test xs < length xs → test (get_or xs (front_count test xs) d) ≡ false
-  stops test [] d h = absurd (omega arith)
-  stops test (x ∷ xs) d h = elim (cases_Bool (test x)) [
-    | inl e ↦ let k : front_count test xs < length xs = omega (arith, rw e at h) in rw e (stops test xs d k)
-    | inr e ↦ rw e e
-  ]
+      stops : {X : Type 0} (test : X → Bool) (xs : List X) (d : X) → front_count test xs < length xs → test (get_or xs (front_count test xs) d) ≡ false
+      stops test [] d h = absurd (omega arith)
+      stops test (x ∷ xs) d h = elim (cases_Bool (test x)) [
+        | inl e ↦ let k : front_count test xs < length xs = omega (arith, rw e at h) in rw e (stops test xs d k)
+        | inr e ↦ rw e e
+      ]
+
+-- ---- what is left of changes that are in order
+
+pub rest_walked :
+    {n count k : ℕ} {old new : List Mark} {queue rest : List Change} {steps : Steps} → Walked n old new queue rest steps → AreInOrder (take count queue)
+    → steps.taken + k ≡ count → AreInOrder (take k rest)
+rest_walked {n} {count} {k} {old} {new} {queue} {rest} {steps} w r h =
+    let P : List Change → Type 0 = λ cs. AreInOrder (take count cs) in
+    order_rest count k w.made rest (omega (arith, w.taken, h)) (subst P w.queue_is r)
+
+pub rest_made :
+    {count j k : ℕ} {old new : List Pair} {queue rest : List Change} → Made old new queue rest → AreInOrder (take count queue)
+    → length rest + j ≡ length queue → j + k ≡ count → AreInOrder (take k rest)
+rest_made {count} {j} {k} {old} {new} {queue} {rest} w r e h =
+    let P : List Change → Type 0 = λ cs. AreInOrder (take count cs) in
+    let many : length w.made + length rest ≡ length queue = sym (ap length w.queue_is ∙ length-append w.made rest) in
+    order_rest count k w.made rest (omega (arith, many, e, h)) (subst P w.queue_is r)
+
+-- ---- the changes up to a separator
+
+pub share_to :
+    (ss : List Pair) (queue : List Change) (count place given : ℕ) (first : Change) (s : Pair) → AreInOrder (take count queue) → 0 < count
+    → count ≤ length queue → first ≡ get_or queue 0 first → place ≡ front_count (λ t. not (is_before first.pair t)) ss → place < length ss
+    → s ≡ get_or ss place s → given ≡ count_lower s (take count queue) → IsShare ss queue count (record { place = place; count = given })
+share_to ss queue count place given first s order some within is place_is there at_place is_given =
+    let stop : not (is_before first.pair (get_or ss place s)) ≡ false = front_stops (λ t. not (is_before first.pair t)) ss s place place_is there in
+    let up : is_before first.pair s ≡ true = ap (is_before first.pair) at_place ∙ not-false _ stop in
+    let least : 0 + 1 ≤ count_lower s (take count queue) = lower_more count queue s 0 first order within some is up in
+    let few : given ≤ count = omega (arith, is_given, count_lower-le count queue s, length-take count queue) in
+    record {
+      some = omega (arith, least, is_given);
+      few = few;
+      place = λ d. place_is ∙ ap (λ (x : Change). front_count (λ t. not (is_before x.pair t)) ss) (is ∙ get_or_default queue 0 first d (omega (arith, some, within)));
+      before = λ x i d h. ap (is_before x.pair) (get_or_default ss place d s h ∙ sym at_place) ∙ lower_each count given queue s x is_given few i;
+    }

@@ -62,14 +62,14 @@ count_child p (c ∷ b ∷ cs) (s ∷ ss) d e r =
     let j = rising_parts mark_before c.marks (Between s ∷ weave (b ∷ cs) ss) r in
     elim (cases_Bool (is_before p s)) [
       | inl up ↦ rw up (count_to p s 0 c.marks (weave (b ∷ cs) ss) up)
-      | inr no ↦ rw no (count_past p s 0 c.marks (weave (b ∷ cs) ss) (λ t i. behind t (j.apart (Between t) (Between s) i (inl refl)) no) no
+      | inr other ↦ rw other (count_past p s 0 c.marks (weave (b ∷ cs) ss) (λ t i. behind t (j.apart (Between t) (Between s) i (inl refl)) other) other
           ∙ count_child p (b ∷ cs) ss d (omega arith) j.right.1)
     ] where
-  behind : (t : Pair) → is_before t s ≡ true → is_before p s ≡ false → is_before p t ≡ false
-  behind t lt no = elim (cases_Bool (is_before p t)) [
-    | inl f ↦ absurd (both_ways _ no (before-strict.onward p t s f lt))
-    | inr f ↦ f
-  ]
+      behind : (t : Pair) → is_before t s ≡ true → is_before p s ≡ false → is_before p t ≡ false
+      behind t lt stop = elim (cases_Bool (is_before p t)) [
+        | inl f ↦ absurd (both_ways _ stop (before-strict.onward p t s f lt))
+        | inr f ↦ f
+      ]
 
 pub count_leaf : (p : Pair) (n : ℕ) (ps : List Pair) → leaf_count n p (items_of ps) ≡ n + length ps
 count_leaf p n [] = omega arith
@@ -113,11 +113,11 @@ in_at c (suc n) (d ∷ made) rest h = inr (in_at c n made rest (omega arith))
 -- ---- where the child stops, the fan does
 
 wants_there :
-    {fan : Fan Seen} {queue : List Change} {count : ℕ} {share : Share} {child : Seen} (made rest : List Change) (c : Change)
+    {fan : Fan Seen} {queue : List Change} {count : ℕ} {share : Share} (child : Seen) (made rest : List Change) (c : Change)
     → IsFanned fan → IsShare (separators_of fan) queue count share → AreInOrder (take count queue) → IsFanned (with_child fan share.place child)
     → queue ≡ made ++ c ∷ rest → length made < share.count → WantsSplit (c ∷ rest) child.marks
     → WantsSplit (c ∷ rest) (weave (children_of (with_child fan share.place child)) (separators_of fan))
-wants_there {fan} {queue} {count} {share} {child} made rest c f s order kept is few w =
+wants_there {fan} {queue} {count} {share} child made rest c f s order kept is few w =
     let a = place f s in
     let I : List Change → Type 0 = λ cs. In c (take share.count cs) in
     let i : In c (take share.count queue) = subst I (sym is) (in_at c share.count made rest few) in
@@ -127,8 +127,7 @@ wants_there {fan} {queue} {count} {share} {child} made rest c f s order kept is 
     let cs : List Seen = set (children_of fan) share.place child in
     let found : get_or cs (place_of c.pair (separators_of fan)) child ≡ child =
     ap (λ (n : ℕ). get_or cs n child) same ∙ get_or-set_same (children_of fan) share.place child child a.within in
-    let b : Belong (c ∷ []) a.l a.r = belong_one f s order c i in
-    (
+    let b : Belong (c ∷ []) a.l a.r = belong_one f s order c i in (
       w.0,
       ap (has mark_before (Item c.pair)) (a.changed child)
           ∙ has-middle mark_before-strict (Item c.pair) a.l child.marks a.r (b.below c (inl refl)) (b.above c (inl refl)) ∙ w.1,
@@ -136,9 +135,9 @@ wants_there {fan} {queue} {count} {share} {child} made rest c f s order kept is 
     )
 
 pub stops_there :
-    {fan : Fan Seen} {queue rest : List Change} {count : ℕ} {share : Share} {steps : Steps} {old child : Seen}
+    {fan : Fan Seen} {queue rest : List Change} {count : ℕ} {share : Share} {steps : Steps} (old child : Seen)
     → IsFanned fan → IsShare (separators_of fan) queue count share → AreInOrder (take count queue) → IsFanned (with_child fan share.place child)
     → Walked share.count old.marks child.marks queue rest steps → steps.taken < share.count → WantsSplit rest child.marks
     → WantsSplit rest (weave (children_of (with_child fan share.place child)) (separators_of fan))
-stops_there {rest = []} f s order kept w h stop = absurd stop
-stops_there {rest = c ∷ rest} f s order kept w h stop = wants_there w.made rest c f s order kept w.queue_is (omega (arith, w.taken)) stop
+stops_there {rest = []} old child f s order kept w h stop = absurd stop
+stops_there {rest = c ∷ rest} old child f s order kept w h stop = wants_there child w.made rest c f s order kept w.queue_is (omega (arith, w.taken)) stop

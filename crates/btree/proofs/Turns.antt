@@ -5,7 +5,7 @@ use Rattle.keybytes.specs.declared.pair.Pair.{Pair}
 use Rattle.tree_nodes.specs.declared.fan.Fan.{Fan}
 use Rattle.tree_nodes.specs.Fans.{children_of, separators_of}
 use Rattle.tree_nodes.specs.Lists.{In, IsRising}
-use Rattle.tree_nodes.specs.Order.{is_before}
+use Rattle.tree_nodes.specs.Order.{is_before, PairsRise}
 use Rattle.tree_nodes.proofs.Rising.{rising_parts}
 use Rattle.tree_nodes.proofs.Strict.{before-strict}
 use Rattle.btree.specs.declared.change.Change.{Change}
@@ -28,7 +28,7 @@ use Rattle.btree.proofs.Removed.{Fanned, with_child, fanned_with}
 still_below : (y : Mark) (p q : Pair) → mark_before y (Item p) ≡ true → is_before q p ≡ false → mark_before y (Item q) ≡ true
 still_below y p q e f = elim (cases_Bool (is_before p q)) [
   | inl up ↦ mark_before-strict.onward y (Item p) (Item q) e up
-  | inr no ↦ subst (λ t. mark_before y (Item t) ≡ true) (before-strict.tied p q no f) e
+  | inr other ↦ subst (λ t. mark_before y (Item t) ≡ true) (before-strict.tied p q other f) e
 ]
 
 -- some change, where a list has none
@@ -40,6 +40,10 @@ no_child = record { marks = []; height = 0; levels = [] }
 
 abbrev pub first_pair : List Change → Pair
 first_pair queue = (get_or queue 0 no_change).pair
+
+-- the separators of a fan rise
+pub fan_ordered : {fan : Fan Seen} → IsFanned fan → PairsRise (separators_of fan)
+fan_ordered {fan} f = let a : AtFan (seen_kind (kind.Fan fan)) fan = at_fan refl f refl in a.ordered
 
 module _ {fan : Fan Seen} {queue : List Change} {count : ℕ} {share : Share} (f : IsFanned fan) (s : IsShare (separators_of fan) queue count share) where
   pub here : AtFan (seen_kind (kind.Fan fan)) fan
@@ -96,10 +100,11 @@ count_middle l w v r a b h =
     let x : length (pairs_in (l ++ (v ++ r))) ≡ length (pairs_in l) + (length (pairs_in v) + length (pairs_in r)) = count_parts l v r in
     let y : length (pairs_in (l ++ (w ++ r))) ≡ length (pairs_in l) + (length (pairs_in w) + length (pairs_in r)) = count_parts l w r in
     omega (arith, x, y, h) where
-  count_two : (l r : List Mark) → length (pairs_in (l ++ r)) ≡ length (pairs_in l) + length (pairs_in r)
-  count_two l r = ap length (pairs_in-append l r) ∙ length-append (pairs_in l) (pairs_in r)
-  count_parts : (l w r : List Mark) → length (pairs_in (l ++ (w ++ r))) ≡ length (pairs_in l) + (length (pairs_in w) + length (pairs_in r))
-  count_parts l w r = count_two l (w ++ r) ∙ ap (λ (n : ℕ). length (pairs_in l) + n) (count_two w r)
+      count_two : (l r : List Mark) → length (pairs_in (l ++ r)) ≡ length (pairs_in l) + length (pairs_in r)
+      count_two l r = ap length (pairs_in-append l r) ∙ length-append (pairs_in l) (pairs_in r)
+
+      count_parts : (l w r : List Mark) → length (pairs_in (l ++ (w ++ r))) ≡ length (pairs_in l) + (length (pairs_in w) + length (pairs_in r))
+      count_parts l w r = count_two l (w ++ r) ∙ ap (λ (n : ℕ). length (pairs_in l) + n) (count_two w r)
 
 pub record Turned (fan new : Fan Seen) (count : ℕ) (queue rest : List Change) (steps : Steps) : Type 0 where
   pub kept : IsFanned new
@@ -108,11 +113,11 @@ pub record Turned (fan new : Fan Seen) (count : ℕ) (queue rest : List Change) 
 
 -- changes were made in one child
 pub turned :
-    {fan : Fan Seen} {queue rest : List Change} {count : ℕ} {share : Share} {steps : Steps} {old child : Seen}
+    {fan : Fan Seen} {queue rest : List Change} {count : ℕ} {share : Share} {steps : Steps} (old child : Seen)
     → IsFanned fan → IsShare (separators_of fan) queue count share → AreInOrder (take count queue)
     → old ≡ get_or (children_of fan) share.place old → Walked share.count old.marks child.marks queue rest steps → child.height ≡ old.height
     → Turned fan (with_child fan share.place child) count queue rest steps
-turned {fan} {queue} {rest} {count} {share} {steps} {old} {child} f s order is w height =
+turned {fan} {queue} {rest} {count} {share} {steps} old child f s order is w height =
     let a = place f s in
     let now : weave (children_of fan) (separators_of fan) ≡ a.l ++ (old.marks ++ a.r) =
     a.is old ∙ ap (λ (c : Seen). a.l ++ (c.marks ++ a.r)) (sym is) in

@@ -1,5 +1,5 @@
 -- Changes of a tree, made one after another.
-use Rattle.std.specs.Prelude.{◌≡◌, ◌≤◌, ◌<◌, ◌+◌, ℕ, suc, Bool, true, not, if◌then◌else◌, List, [], ◌∷◌, ◌++◌, Some, length, take, get_or}
+use Rattle.std.specs.Prelude.{◌≡◌, ◌≤◌, ◌<◌, ◌+◌, ℕ, suc, Bool, true, false, not, if◌then◌else◌, List, [], ◌∷◌, ◌++◌, Some, length, take, get_or}
 use Rattle.std.specs.FinSet.{FinSet}
 use Rattle.keybytes.specs.Pairs.{pair_cmp, set_of, with_pair, without_pair}
 use Rattle.keybytes.specs.declared.pair.Pair.{Pair}

@@ -3,7 +3,7 @@ ghost use Rattle.std.specs.Prelude.{◌≡◌, ◌≤◌, ◌<◌, ◌+◌, true
 ghost use Rattle.keybytes.specs.Pairs.{set_of};
 ghost use Rattle.btree.specs.Changes.{changed_by, AreInOrder, Made};
 
-use crate::change::Change;
+use crate::change::{Change, take_first};
 use crate::tree::Tree;
 use keybytes::{Fault, Pair};
 use std::collections::VecDeque;
@@ -40,10 +40,7 @@ fn apply_first(tree: &mut Tree, queue: &mut VecDeque<Change>) -> Result<(), Faul
     if first.puts_in {
         tree.make_room(&first.pair.key)?;
     }
-    let Some(change) = queue.pop_front() else {
-        unreachable!()
-    };
-    apply_one(tree, change);
+    apply_one(tree, take_first(queue));
     Ok(())
 }
 

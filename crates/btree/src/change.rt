@@ -1,5 +1,5 @@
 //! Changes of a tree, and what a walk made of them.
-ghost use Rattle.std.specs.Prelude.{◌≡◌, ◌≤◌, ◌<◌, ◌+◌, ◌^◌, length, take};
+ghost use Rattle.std.specs.Prelude.{◌≡◌, ◌≤◌, ◌<◌, ◌+◌, ◌^◌, ◌∷◌, length, take};
 ghost use Rattle.tree_nodes.specs.Lists.{front_count};
 ghost use Rattle.tree_nodes.specs.Order.{is_before};
 ghost use Rattle.btree.specs.Changes.{AreInOrder, both};
@@ -51,6 +51,17 @@ impl Steps {
             added: self.added + more.added,
             removed: self.removed + more.removed,
         }
+    }
+}
+
+/// Takes the first change.
+pub fn take_first(queue: &mut VecDeque<Change>) -> Change
+    requires { 0 < length queue.old.items }
+    ensures { queue.old.items ≡ result ∷ queue.new.items }
+{
+    match queue.pop_front() {
+        Some(change) => change,
+        None => unreachable!(),
     }
 }
 

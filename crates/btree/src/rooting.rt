@@ -102,11 +102,7 @@ pub fn remove_under(root: &mut Option<Node>, key: &Key, rid: Rid) -> bool
 
 /// Makes changes from the front of the queue in a tree of that root, if it has one: at most that many, which are in order, up to one for which
 /// a node has to be split.
-pub fn apply_under(
-    root: &mut Option<Node>,
-    queue: &mut VecDeque<Change>,
-    count: usize,
-) -> Steps
+pub fn apply_under(root: &mut Option<Node>, queue: &mut VecDeque<Change>, count: usize) -> Steps
     requires within { count ≤ length queue.old.items }
     requires order { AreInOrder (take count queue.old.items) }
     ensures walked { Walked count (marks_under root.old) (marks_under root.new) queue.old.items queue.new.items result }

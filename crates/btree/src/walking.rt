@@ -1,11 +1,11 @@
 //! Changes that are made where no node has to be split.
-ghost use Rattle.std.specs.Prelude.{◌≡◌, ◌≤◌, ◌<◌, length, take, slice_index_or};
+ghost use Rattle.std.specs.Prelude.{◌≡◌, ◌≤◌, ◌<◌, false, length, take, slice_index_or};
 ghost use Rattle.tree_nodes.specs.Fans.{separators_of, IsFan};
 ghost use Rattle.tree_nodes.specs.Order.{PairsRise};
 ghost use Rattle.btree.specs.Changes.{AreInOrder, Walked, WantsSplit, IsShare};
 ghost use Rattle.btree.specs.Marks.{items_of};
 
-use crate::change::{Change, Steps, count_before};
+use crate::change::{Change, Steps, count_before, take_first};
 use crate::node::Node;
 use crate::tree::one_if;
 use std::collections::VecDeque;
@@ -40,25 +40,25 @@ fn apply_first(leaf: &mut Leaf, queue: &mut VecDeque<Change>) -> Steps
     if !first.puts_in {
         return take_out(leaf, queue);
     }
-    let place = leaf.find(&first.pair.key, first.pair.rid);
-    if place.is_err() && leaf.pairs().len() == LEAF_MAX {
-        return Steps::none();
-    }
-    let Some(change) = queue.pop_front() else {
-        unreachable!()
-    };
-    let Err(place) = place else {
-        return Steps {
-            taken: 1,
-            added: 0,
-            removed: 0,
-        };
-    };
-    leaf.insert_at(place, change.pair);
-    Steps {
-        taken: 1,
-        added: 1,
-        removed: 0,
+    match leaf.find(&first.pair.key, first.pair.rid) {
+        Ok(_) => {
+            let _there = take_first(queue);
+            Steps {
+                taken: 1,
+                added: 0,
+                removed: 0,
+            }
+        }
+        Err(_) if leaf.pairs().len() == LEAF_MAX => Steps::none(),
+        Err(place) => {
+            let change = take_first(queue);
+            leaf.insert_at(place, change.pair);
+            Steps {
+                taken: 1,
+                added: 1,
+                removed: 0,
+            }
+        }
     }
 }
 
@@ -69,9 +69,7 @@ fn take_out(leaf: &mut Leaf, queue: &mut VecDeque<Change>) -> Steps
     ensures walked { Walked 1 (items_of leaf.old) (items_of leaf.new) queue.old.items queue.new.items result }
     ensures one { result.taken ≡ 1 }
 {
-    let Some(change) = queue.pop_front() else {
-        unreachable!()
-    };
+    let change = take_first(queue);
     Steps {
         taken: 1,
         added: 0,

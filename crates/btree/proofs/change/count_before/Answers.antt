@@ -1,11 +1,10 @@
 use Rattle.std.proofs.Common.{sym, ◌∙◌, arith}
 use Rattle.std.proofs.lemmas.List.{length-take}
-use Rattle.tree_nodes.proofs.Fronts.{front_count-le-length}
-use Rattle.btree.proofs.Ordered.{lower_more, lower_end}
+use Rattle.btree.proofs.Ordered.{count_lower-le, lower_more, lower_end}
 use Rattle.btree.proofs.change.count_before.Goals as goal
 
 pub loop-low-init : goal.loop-low-init
-loop-low-init c = record { low = omega arith; high = omega (arith, front_count-le-length _ _, length-take c.args.count c.args.queue.now.items); within = omega arith }
+loop-low-init c = record { low = omega arith; high = omega (arith, count_lower-le c.args.count c.args.queue.now.items c.args.pair.now, length-take c.args.count c.args.queue.now.items); within = omega arith }
 
 pub loop-low-preserved-then-is_before : goal.loop-low-preserved-then-is_before
 loop-low-preserved-then-is_before c = record {
