@@ -7,9 +7,12 @@ use Rattle.tree_nodes.specs.Order.{is_before, PairsRise}
 use Rattle.tree_nodes.proofs.Places.{put_present}
 use Rattle.tree_nodes.proofs.Strict.{before-strict}
 use Rattle.btree.specs.declared.change.Change.{Change}
+use Rattle.btree.specs.declared.change.Steps.{Steps}
 use Rattle.btree.specs.Changes.{leaf_count, WantsSplit, Walked}
 use Rattle.btree.specs.Marks.{Mark, Item, mark_before, items_of, pairs_in}
-use Rattle.btree.proofs.Changing.{put-items_of}
+use Rattle.btree.specs.Seen.{Seen}
+use Rattle.btree.proofs.Changing.{rising_changed, put-items_of}
+use Rattle.btree.proofs.FanFacts.{AtLeaf}
 use Rattle.btree.proofs.MarkFacts.{has-items_of, without-items_of, pairs_in-items_of}
 use Rattle.btree.proofs.Stops.{count_leaf}
 use Rattle.btree.proofs.TreeFacts.{length-without, length-put}
@@ -84,3 +87,10 @@ leaf_full (d ∷ queue) c ps some is puts absent full =
 -- the first of a queue
 pub first_is : (queue rest : List Change) (c d : Change) → queue ≡ c ∷ rest → get_or queue 0 d ≡ c
 first_is queue rest c d is = ap (λ (cs : List Change). get_or cs 0 d) is
+
+-- a leaf still rises
+pub leaf_rises :
+    {seen : Seen} {ps new : List Pair} {n : ℕ} {queue rest : List Change} {steps : Steps} → AtLeaf seen ps
+    → Walked n (items_of ps) (items_of new) queue rest steps → IsRising mark_before (items_of new)
+leaf_rises {seen} {ps} {new} f w =
+    let R : List Mark → Type 0 = λ ms. IsRising mark_before ms in subst R (sym w.marks) (rising_changed w.made (items_of ps) f.rising)

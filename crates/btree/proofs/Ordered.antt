@@ -165,16 +165,16 @@ front_stops test xs d at e h =
 -- ---- what is left of changes that are in order
 
 pub rest_walked :
-    {n count k : ℕ} {old new : List Mark} {queue rest : List Change} {steps : Steps} → Walked n old new queue rest steps → AreInOrder (take count queue)
+    {n count : ℕ} {old new : List Mark} {queue rest : List Change} {steps : Steps} (k : ℕ) → Walked n old new queue rest steps → AreInOrder (take count queue)
     → steps.taken + k ≡ count → AreInOrder (take k rest)
-rest_walked {n} {count} {k} {old} {new} {queue} {rest} {steps} w r h =
+rest_walked {n} {count} {old} {new} {queue} {rest} {steps} k w r h =
     let P : List Change → Type 0 = λ cs. AreInOrder (take count cs) in
     order_rest count k w.made rest (omega (arith, w.taken, h)) (subst P w.queue_is r)
 
 pub rest_made :
-    {count j k : ℕ} {old new : List Pair} {queue rest : List Change} → Made old new queue rest → AreInOrder (take count queue)
+    {count : ℕ} {old new : List Pair} {queue rest : List Change} (j k : ℕ) → Made old new queue rest → AreInOrder (take count queue)
     → length rest + j ≡ length queue → j + k ≡ count → AreInOrder (take k rest)
-rest_made {count} {j} {k} {old} {new} {queue} {rest} w r e h =
+rest_made {count} {old} {new} {queue} {rest} j k w r e h =
     let P : List Change → Type 0 = λ cs. AreInOrder (take count cs) in
     let many : length w.made + length rest ≡ length queue = sym (ap length w.queue_is ∙ length-append w.made rest) in
     order_rest count k w.made rest (omega (arith, many, e, h)) (subst P w.queue_is r)

@@ -4,15 +4,15 @@ use Rattle.btree.proofs.Ordered.{rest_made}
 use Rattle.btree.proofs.applying.apply_run.Goals as goal
 
 pub returns-in_err-apply_first-clause-made : goal.returns-in_err-apply_first-clause-made
-returns-in_err-apply_first-clause-made c = made_on (made_on c.loop-left.invariant.made c.walk.ensures.made) c.in_err-apply_first.ensures.made
+returns-in_err-apply_first-clause-made c = made_on (made_on c.loop-left.invariant.made c.walk-left.ensures.made) c.in_err-apply_first.ensures.made
 
 pub loop-left-preserved-then-left-gt0 : goal.loop-left-preserved-then-left-gt0
 loop-left-preserved-then-left-gt0 c = record {
-  made = made_on (made_on c.loop-left.invariant.made c.walk.ensures.made) c.in_ok-apply_first.ensures.made;
-  rest = omega (arith, c.loop-left.invariant.rest, c.walk.ensures.taken, c.in_ok-apply_first.ensures.one);
+  made = made_on (made_on c.loop-left.invariant.made c.walk-left.ensures.made) c.in_ok-apply_first.ensures.made;
+  rest = omega (arith, c.loop-left.invariant.rest, c.walk-left.ensures.taken, c.in_ok-apply_first.ensures.one);
   few = omega (arith, c.loop-left.invariant.few);
-  order = rest_made c.in_ok-apply_first.ensures.made
-      (rest_made c.walk.ensures.made c.loop-left.invariant.order c.walk.ensures.taken (omega (arith, c.walk.ensures.few)))
+  order = rest_made _ _ c.in_ok-apply_first.ensures.made
+      (rest_made _ _ c.walk-left.ensures.made c.loop-left.invariant.order c.walk-left.ensures.taken (omega (arith, c.walk-left.ensures.few)))
       c.in_ok-apply_first.ensures.one (omega arith);
 }
 

@@ -1,4 +1,5 @@
 use Rattle.std.proofs.Common.{arith}
+use Rattle.keybytes.specs.declared.pair.Pair.{Pair}
 use Rattle.tree_nodes.proofs.Fronts.{front_count-le-length}
 use Rattle.btree.proofs.Ordered.{share_to}
 use Rattle.btree.proofs.walking.first_share.Goals as goal
