@@ -90,7 +90,7 @@ first_is queue rest c d is = ap (λ (cs : List Change). get_or cs 0 d) is
 
 -- a leaf still rises
 pub leaf_rises :
-    {seen : Seen} {ps new : List Pair} {n : ℕ} {queue rest : List Change} {steps : Steps} → AtLeaf seen ps
+    {seen : Seen} {ps : List Pair} {n : ℕ} {queue rest : List Change} {steps : Steps} (new : List Pair) → AtLeaf seen ps
     → Walked n (items_of ps) (items_of new) queue rest steps → IsRising mark_before (items_of new)
-leaf_rises {seen} {ps} {new} f w =
+leaf_rises {seen} {ps} new f w =
     let R : List Mark → Type 0 = λ ms. IsRising mark_before ms in subst R (sym w.marks) (rising_changed w.made (items_of ps) f.rising)

@@ -6,5 +6,6 @@ pub loop-count-preserved : goal.loop-count-preserved
 loop-count-preserved c = record {
   some = omega arith;
   within = omega arith;
-  order = let h = c.index in ?;
+  order = order_more _ _ _ _ c.loop-count.invariant.some (omega arith) c.index.ensures c.index-in-loop-count.ensures
+      (sym c.is_before.ensures ∙ c.if-is_before.false) c.loop-count.invariant.order;
 }

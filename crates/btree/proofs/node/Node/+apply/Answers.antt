@@ -13,7 +13,7 @@ pub first_share-share-requires-clause-rise : goal.first_share-share-requires-cla
 first_share-share-requires-clause-rise t c = fan_ordered c.children.invariant.kept
 
 pub first_share-share-requires-clause-order : goal.first_share-share-requires-clause-order
-first_share-share-requires-clause-order t c = rest_walked _ c.children.invariant.walked c.requires.order (omega arith)
+first_share-share-requires-clause-order t c = rest_walked (c.args.count - c.children.steps.taken) c.children.invariant.walked c.requires.order (omega arith)
 
 pub child_mut-requires : goal.child_mut-requires
 child_mut-requires t c = (place c.children.invariant.kept c.first_share-share.ensures).within
@@ -27,44 +27,46 @@ apply-more-requires t c =
       omega (arith, h, f.height, c.children.invariant.height, c.decreases),
       (
         omega (arith, s.few, walked_length c.children.invariant.walked, c.requires.within),
-        order_take _ _ _ s.few (rest_walked _ c.children.invariant.walked c.requires.order (omega arith)),
+        order_take _ _ _ s.few (rest_walked (c.args.count - c.children.steps.taken) c.children.invariant.walked c.requires.order (omega arith)),
       ),
     )
 
 pub invariant_of-self : goal.invariant_of-self
 invariant_of-self t c =
-    let order = rest_walked _ c.children.invariant.walked c.requires.order (omega arith) in
-    (turned _ _ c.children.invariant.kept c.first_share-share.ensures order c.child_mut.ensures.child c.apply-more.ensures.walked
+    let order = rest_walked (c.args.count - c.children.steps.taken) c.children.invariant.walked c.requires.order (omega arith) in
+    (turned c.child_mut.result.now c.apply-more.new.self c.children.invariant.kept c.first_share-share.ensures order c.child_mut.ensures.child c.apply-more.ensures.walked
     c.apply-more.ensures.height).kept
 
 pub returns-then-stops-clause-walked : goal.returns-then-stops-clause-walked
 returns-then-stops-clause-walked t c =
     let f = at_fan c.self.view_is c.self.invariant c.in-Fan.is in
-    let order = rest_walked _ c.children.invariant.walked c.requires.order (omega arith) in
-    let turn = turned _ _ c.children.invariant.kept c.first_share-share.ensures order c.child_mut.ensures.child c.apply-more.ensures.walked
+    let order = rest_walked (c.args.count - c.children.steps.taken) c.children.invariant.walked c.requires.order (omega arith) in
+    let turn = turned c.child_mut.result.now c.apply-more.new.self c.children.invariant.kept c.first_share-share.ensures order c.child_mut.ensures.child c.apply-more.ensures.walked
     c.apply-more.ensures.height in
-    rw (f.marks, c.then-steps.ensures) (walked_on c.children.invariant.walked turn.walked (omega (arith, turn.walked.within)))
+    let fits : c.children.steps.taken + c.apply-more.result.taken ≤ c.args.count = omega (arith, turn.walked.within) in
+    rw (f.marks, c.then-steps.ensures) (walked_on c.children.invariant.walked turn.walked fits)
 
 pub returns-then-stops-clause-stops : goal.returns-then-stops-clause-stops
 returns-then-stops-clause-stops t c = λ less.
-    let order = rest_walked _ c.children.invariant.walked c.requires.order (omega arith) in
+    let order = rest_walked (c.args.count - c.children.steps.taken) c.children.invariant.walked c.requires.order (omega arith) in
     let s = c.first_share-share.ensures in
-    let turn = turned _ _ c.children.invariant.kept s order c.child_mut.ensures.child c.apply-more.ensures.walked c.apply-more.ensures.height in
-    stops_there _ _ c.children.invariant.kept s order turn.kept c.apply-more.ensures.walked c.if-stops.true (c.apply-more.ensures.stops c.if-stops.true)
+    let turn = turned c.child_mut.result.now c.apply-more.new.self c.children.invariant.kept s order c.child_mut.ensures.child c.apply-more.ensures.walked c.apply-more.ensures.height in
+    stops_there c.child_mut.result.now c.apply-more.new.self c.children.invariant.kept s order turn.kept c.apply-more.ensures.walked c.if-stops.true (c.apply-more.ensures.stops c.if-stops.true)
 
 pub children-preserved : goal.children-preserved
 children-preserved t c =
-    let order = rest_walked _ c.children.invariant.walked c.requires.order (omega arith) in
-    let turn = turned _ _ c.children.invariant.kept c.first_share-share.ensures order c.child_mut.ensures.child c.apply-more.ensures.walked
+    let order = rest_walked (c.args.count - c.children.steps.taken) c.children.invariant.walked c.requires.order (omega arith) in
+    let turn = turned c.child_mut.result.now c.apply-more.new.self c.children.invariant.kept c.first_share-share.ensures order c.child_mut.ensures.child c.apply-more.ensures.walked
     c.apply-more.ensures.height in
+    let fits : c.children.steps.taken + c.apply-more.result.taken ≤ c.args.count = omega (arith, turn.walked.within) in
     record {
       kept = turn.kept;
-      walked = rw c.then-steps.ensures (walked_on c.children.invariant.walked turn.walked (omega (arith, turn.walked.within)));
+      walked = rw c.then-steps.ensures (walked_on c.children.invariant.walked turn.walked fits);
       height = turn.height ∙ c.children.invariant.height;
     }
 
 pub invariant_of-self-2 : goal.invariant_of-self-2
 invariant_of-self-2 t c = elim c.match-self.branch [
-  | in-Leaf w ↦ rw w.self-inside-is (leaf_rises (at_leaf c.self.view_is c.self.invariant w.in-Leaf.is) w.apply_to_leaf.ensures.walked)
+  | in-Leaf w ↦ rw w.self-inside-is (leaf_rises _ (at_leaf c.self.view_is c.self.invariant w.in-Leaf.is) w.apply_to_leaf.ensures.walked)
   | in-Fan+else-children-test w ↦ rw w.self-inside-is w.children.invariant.kept
 ]
