@@ -4,7 +4,6 @@ use Rattle.std.proofs.lemmas.Bool.{cases_Bool}
 use Rattle.keybytes.specs.declared.pair.Pair.{Pair}
 use Rattle.tree_nodes.specs.Lists.{IsRising, has, put, without}
 use Rattle.tree_nodes.specs.Order.{is_before, PairsRise}
-use Rattle.tree_nodes.proofs.Places.{put_present}
 use Rattle.tree_nodes.proofs.Strict.{before-strict}
 use Rattle.btree.specs.declared.change.Change.{Change}
 use Rattle.btree.specs.declared.change.Steps.{Steps}
@@ -62,12 +61,12 @@ leaf_in c queue rest ps new is puts rise absent e =
 
 -- the pair is there already
 pub leaf_same :
-    (c : Change) (queue rest : List Change) (ps : List Pair) → queue ≡ c ∷ rest → c.puts_in ≡ true → PairsRise ps → has is_before c.pair ps ≡ true
+    (c : Change) (queue rest : List Change) (ps : List Pair) → queue ≡ c ∷ rest → c.puts_in ≡ true → put is_before c.pair ps ≡ ps
     → Walked 1 (items_of ps) (items_of ps) queue rest (record { taken = 1; added = 0; removed = 0 })
-leaf_same c queue rest ps is puts rise there = record {
+leaf_same c queue rest ps is puts same = record {
   made = c ∷ [];
   queue_is = is;
-  marks = rw puts (sym (put-items_of c.pair ps ∙ ap items_of (put_present before-strict c.pair ps rise.rising there)));
+  marks = rw puts (sym (put-items_of c.pair ps ∙ ap items_of same));
   taken = refl;
   within = omega arith;
   counted = refl;
