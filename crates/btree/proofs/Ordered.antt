@@ -9,7 +9,7 @@ use Rattle.tree_nodes.proofs.Fronts.{front_count-le-length, front_fails, front_p
 use Rattle.tree_nodes.proofs.Strict.{before-strict}
 use Rattle.btree.specs.declared.change.Change.{Change}
 use Rattle.btree.specs.declared.change.Steps.{Steps}
-use Rattle.btree.specs.Changes.{not_behind, AreInOrder, Made, Walked, IsShare}
+use Rattle.btree.specs.Changes.{not_behind, AreInOrder, count_lower, Made, Walked, IsShare}
 use Rattle.btree.specs.Marks.{Mark}
 use Rattle.btree.proofs.MarkFacts.{le_lt}
 
@@ -108,9 +108,6 @@ order_more (suc n) cs last next some h is_last is_next e r =
 
 down : (q : Pair) (x y : Change) → not_behind x y ≡ true → is_before y.pair q ≡ true → is_before x.pair q ≡ true
 down q x y l k = le_lt x.pair y.pair q (not-true _ l) k
-
-abbrev pub count_lower : Pair → List Change → ℕ
-count_lower q cs = front_count (λ c. is_before c.pair q) cs
 
 pub count_lower-le : (n : ℕ) (cs : List Change) (q : Pair) → count_lower q (take n cs) ≤ length (take n cs)
 count_lower-le n cs q = front_count-le-length (λ c. is_before c.pair q) (take n cs)

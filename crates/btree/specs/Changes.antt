@@ -33,6 +33,10 @@ not_behind a b = not (is_before b.pair a.pair)
 abbrev pub AreInOrder : List Change → Type 0
 AreInOrder changes = IsRising not_behind changes
 
+-- how many changes at the front stand before a pair
+abbrev pub count_lower : Pair → List Change → ℕ
+count_lower pair changes = front_count (λ change. is_before change.pair pair) changes
+
 -- a node's marks once a change is made
 abbrev pub marks_by : Change → List Mark → List Mark
 marks_by change marks = if change.puts_in then put mark_before (Item change.pair) marks else without mark_before (Item change.pair) marks

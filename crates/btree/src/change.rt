@@ -1,8 +1,6 @@
 //! Changes of a tree, and what a walk made of them.
 ghost use Rattle.std.specs.Prelude.{◌≡◌, ◌≤◌, ◌<◌, ◌+◌, ◌^◌, ◌∷◌, length, take};
-ghost use Rattle.tree_nodes.specs.Lists.{front_count};
-ghost use Rattle.tree_nodes.specs.Order.{is_before};
-ghost use Rattle.btree.specs.Changes.{AreInOrder, both};
+ghost use Rattle.btree.specs.Changes.{AreInOrder, both, count_lower};
 
 use keybytes::Pair;
 use std::collections::VecDeque;
@@ -86,14 +84,38 @@ pub fn count_in_order(queue: &VecDeque<Change>) -> usize
     count
 }
 
-/// How many of that many changes, which are in order, stand before the pair.
+/// How many of that many changes, which are in order, stand before the pair. Mostly few of many do, so it looks at the 1st, 2nd, 4th and so on
+/// until one doesn't.
 pub fn count_before(queue: &VecDeque<Change>, count: usize, pair: &Pair) -> usize
+    requires some { 0 < count }
     requires within { count ≤ length queue.now.items }
     requires order { AreInOrder (take count queue.now.items) }
-    ensures { result ≡ front_count (λ change. is_before change.pair pair.now) (take count queue.now.items) }
+    ensures { result ≡ count_lower pair.now (take count queue.now.items) }
 {
     let mut low = 0;
-    let mut high = count;
+    let mut high = 1;
+    while high < count {
+        let last = high - 1;
+        if !is_before(&queue[last].pair, &pair.key, pair.rid) {
+            return bisect(queue, count, low, last, pair);
+        }
+        low = high;
+        high += high.min(count - high);
+    }
+    bisect(queue, count, low, count, pair)
+}
+
+/// The same, where it is known to lie between `low` and `high`.
+fn bisect(queue: &VecDeque<Change>, count: usize, low: usize, high: usize, pair: &Pair) -> usize
+    requires within { count ≤ length queue.now.items }
+    requires order { AreInOrder (take count queue.now.items) }
+    requires low { low ≤ count_lower pair.now (take count queue.now.items) }
+    requires high { count_lower pair.now (take count queue.now.items) ≤ high }
+    requires few { high ≤ count }
+    ensures { result ≡ count_lower pair.now (take count queue.now.items) }
+{
+    let mut low = low;
+    let mut high = high;
     while low < high {
         let middle = low + (high - low) / 2;
         if is_before(&queue[middle].pair, &pair.key, pair.rid) {

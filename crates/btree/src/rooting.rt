@@ -1,7 +1,7 @@
 //! Inserts into a whole tree, which may grow at its root.
-ghost use Rattle.std.specs.Prelude.{◌≡◌, ◌≤◌, ◌+◌, ◌++◌, suc, not, length, take, vec_len};
+ghost use Rattle.std.specs.Prelude.{◌≡◌, ◌≤◌, ◌<◌, ◌+◌, ◌++◌, suc, not, length, take, IsSome, vec_len};
 ghost use Rattle.tree_nodes.specs.Lists.{has, without, IsRising};
-ghost use Rattle.btree.specs.Changes.{AreInOrder, Walked};
+ghost use Rattle.btree.specs.Changes.{AreInOrder, Walked, WantsSplit};
 ghost use Rattle.btree.specs.Growing.{levels_raised};
 ghost use Rattle.btree.specs.Grown.{GrownBy};
 ghost use Rattle.btree.specs.Loading.{marks_behind, height_behind, leaves_behind, LevelsBehind};
@@ -106,6 +106,7 @@ pub fn apply_under(root: &mut Option<Node>, queue: &mut VecDeque<Change>, count:
     requires within { count ≤ length queue.old.items }
     requires order { AreInOrder (take count queue.old.items) }
     ensures walked { Walked count (marks_under root.old) (marks_under root.new) queue.old.items queue.new.items result }
+    ensures stops { IsSome root.old → result.taken < count → WantsSplit queue.new.items (marks_under root.new) }
     ensures height { height_under root.new ≡ height_under root.old }
 {
     match root {
