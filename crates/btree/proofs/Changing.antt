@@ -1,10 +1,10 @@
 -- Changes that are made one after another.
-use Rattle.std.proofs.Common.{◌≡◌, ℕ, suc, ◌+◌, ◌<◌, ◌≤◌, Bool, true, false, not, List, [], ◌∷◌, ◌++◌, Some, length, take, refl, sym, ap, ◌∙◌, subst, inl, inr, arith, append_assoc, length-append}
-use Rattle.std.proofs.lemmas.Bool.{cases_Bool, not-false}
+use Rattle.std.proofs.Common.{◌≡◌, ℕ, ◌+◌, ◌≤◌, true, List, [], ◌∷◌, ◌++◌, length, refl, sym, ap, ◌∙◌, inl, inr, arith, append_assoc, length-append}
+use Rattle.std.proofs.lemmas.Bool.{cases_Bool}
 use Rattle.std.specs.FinSet.{FinSet}
-use Rattle.keybytes.specs.Pairs.{pair_cmp, set_of, with_pair, without_pair}
+use Rattle.keybytes.specs.Pairs.{pair_cmp, set_of}
 use Rattle.keybytes.specs.declared.pair.Pair.{Pair}
-use Rattle.tree_nodes.specs.Lists.{In, IsRising, has, put, without}
+use Rattle.tree_nodes.specs.Lists.{In, IsRising, has, put}
 use Rattle.tree_nodes.specs.Order.{is_before}
 use Rattle.tree_nodes.proofs.Rising.{rising_put, rising_without}
 use Rattle.btree.specs.declared.change.Change.{Change}

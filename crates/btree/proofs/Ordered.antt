@@ -3,7 +3,7 @@ use Rattle.std.proofs.Common.{◌≡◌, ℕ, zero, suc, ◌+◌, ◌<◌, ◌�
 use Rattle.std.proofs.lemmas.Bool.{cases_Bool, both_ways, not_from_false, not-true, not-false}
 use Rattle.std.proofs.lemmas.List.{get_or_default, get_or-take, length-take}
 use Rattle.keybytes.specs.declared.pair.Pair.{Pair}
-use Rattle.tree_nodes.specs.Lists.{In, IsRising, front_count}
+use Rattle.tree_nodes.specs.Lists.{In, front_count}
 use Rattle.tree_nodes.specs.Order.{is_before}
 use Rattle.tree_nodes.proofs.Fronts.{front_count-le-length, front_fails, front_passes}
 use Rattle.tree_nodes.proofs.Strict.{before-strict}

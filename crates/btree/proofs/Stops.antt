@@ -2,7 +2,7 @@
 use Rattle.std.proofs.Common.{◌≡◌, ℕ, suc, ◌+◌, ◌<◌, ◌≤◌, true, false, not, List, [], ◌∷◌, ◌++◌, length, take, get_or, refl, sym, ap, ◌∙◌, subst, inl, inr, arith, append-nil, zero}
 use Rattle.std.proofs.Math.ListN.{set}
 use Rattle.std.proofs.lemmas.List.{get_or-set_same}
-use Rattle.std.proofs.lemmas.Bool.{cases_Bool, cases_lt, both_ways, not_from_false, not_from_true, not-true, not-false}
+use Rattle.std.proofs.lemmas.Bool.{cases_Bool, cases_lt, both_ways, not_from_true}
 use Rattle.keybytes.specs.declared.pair.Pair.{Pair}
 use Rattle.tree_nodes.specs.declared.fan.Fan.{Fan}
 use Rattle.tree_nodes.specs.Fans.{children_of, separators_of}
@@ -18,10 +18,9 @@ use Rattle.btree.specs.Changes.{AreInOrder, leaf_count, WantsSplit, Walked, IsSh
 use Rattle.btree.specs.Marks.{Mark, Item, Between, mark_before, items_of}
 use Rattle.btree.specs.Nodes.{IsFanned}
 use Rattle.btree.specs.Seen.{Seen}
-use Rattle.btree.specs.Weave.{weave, height_of}
-use Rattle.btree.proofs.Around.{Around}
+use Rattle.btree.specs.Weave.{weave}
 use Rattle.btree.proofs.Changing.{Belong}
-use Rattle.btree.proofs.MarkFacts.{mark_before-strict, has-items_of}
+use Rattle.btree.proofs.MarkFacts.{mark_before-strict}
 use Rattle.btree.proofs.Middles.{has-middle}
 use Rattle.btree.proofs.Ordered.{none_before_first, in_more}
 use Rattle.btree.proofs.Removed.{with_child}

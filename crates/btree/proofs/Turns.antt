@@ -1,5 +1,5 @@
 -- A fan one of whose children changes were made in.
-use Rattle.std.proofs.Common.{◌≡◌, ℕ, suc, ◌+◌, ◌<◌, ◌≤◌, true, false, List, [], ◌∷◌, ◌++◌, length, take, get_or, refl, sym, ap, ◌∙◌, subst, inl, inr, arith, length-append}
+use Rattle.std.proofs.Common.{◌≡◌, ℕ, ◌+◌, ◌≤◌, true, false, List, [], ◌∷◌, ◌++◌, length, take, get_or, refl, sym, ap, ◌∙◌, subst, inl, inr, arith, length-append}
 use Rattle.std.proofs.lemmas.Bool.{cases_Bool, cases_lt}
 use Rattle.keybytes.specs.declared.pair.Pair.{Pair}
 use Rattle.tree_nodes.specs.declared.fan.Fan.{Fan}
@@ -22,7 +22,7 @@ use Rattle.btree.proofs.Changing.{Belong, rising_changed, changed-middle}
 use Rattle.btree.proofs.FanFacts.{AtFan, at_fan, around_fan, child_height}
 use Rattle.btree.proofs.MarkFacts.{mark_before-strict, pairs_in-append}
 use Rattle.btree.proofs.Ordered.{in_more, in_front, none_before_first}
-use Rattle.btree.proofs.Removed.{Fanned, with_child, fanned_with}
+use Rattle.btree.proofs.Removed.{with_child, fanned_with}
 
 -- what is before a pair is before one that isn't before it
 still_below : (y : Mark) (p q : Pair) → mark_before y (Item p) ≡ true → is_before q p ≡ false → mark_before y (Item q) ≡ true

@@ -1,4 +1,4 @@
-use Rattle.std.proofs.Common.{◌≡◌, true, false, length, sym, ap, ◌∙◌, subst, arith}
+use Rattle.std.proofs.Common.{◌≡◌, true, false, length, sym, ap, ◌∙◌, subst}
 use Rattle.tree_nodes.specs.Lists.{has, put}
 use Rattle.tree_nodes.specs.Order.{is_before}
 use Rattle.btree.specs.declared.change.Change.{Change}

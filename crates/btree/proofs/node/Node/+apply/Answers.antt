@@ -1,11 +1,10 @@
-use Rattle.std.proofs.Common.{◌+◌, ◌-◌, ◌≡◌, ◌<◌, ◌≤◌, ◌∙◌, take, ap, arith}
-use Rattle.btree.specs.Changes.{AreInOrder, Walked}
+use Rattle.std.proofs.Common.{◌+◌, ◌-◌, ◌≤◌, ◌∙◌, arith}
 use Rattle.btree.proofs.Changing.{walked_on, walked_length}
 use Rattle.btree.proofs.FanFacts.{at_fan, at_leaf, child_height}
 use Rattle.btree.proofs.LeafSteps.{leaf_rises}
 use Rattle.btree.proofs.Ordered.{order_take, rest_walked}
 use Rattle.btree.proofs.Stops.{stops_there}
-use Rattle.btree.proofs.Turns.{fan_ordered, here, place, Turned, turned}
+use Rattle.btree.proofs.Turns.{fan_ordered, here, place, turned}
 use Rattle.btree.proofs.node.Node.+apply.Goals as goal
 use Rattle.btree.proofs.node.Node.+apply.Goals.{in-Leaf, in-Fan+else-children-test}
 
