@@ -71,11 +71,12 @@ adds b log rec = elim (cases_Bool (nat_le b.opened (length log))) [
   | inr closed ↦
       let behind : length log < b.opened = leb-false b.opened (length log) closed in
       let longer : length (log ++ rec ∷ []) ≤ b.opened = omega (arith, length-append log (rec ∷ []), behind) in
+      let none_then : side_entries b (log ++ rec ∷ []) ≡ [] =
+      ap (entries_from b (first_records b.opened (log ++ rec ∷ []))) (drop_all b.opened (log ++ rec ∷ []) longer) in
+      let none_now : side_entries b log ≡ [] = ap (entries_from b (first_records b.opened log)) (drop_all b.opened log (omega (arith, behind))) in
       record {
         count = 0;
-        is =
-            ap (λ (l : List LogRec). length (entries_from b (first_records b.opened (log ++ rec ∷ [])) l)) (drop_all b.opened (log ++ rec ∷ []) longer)
-            ∙ sym (ap (λ (l : List LogRec). length (entries_from b (first_records b.opened log) l)) (drop_all b.opened log (omega (arith, behind))));
+        is = omega (arith, ap (λ (es : List SideEntry). length es) none_then, ap (λ (es : List SideEntry). length es) none_now);
         few = omega arith;
         none = λ _. refl;
       }
@@ -276,7 +277,7 @@ behind_next (Some b) log index entries less left =
     ∙ ap (λ n. length entries + unfed_from b log n (drop n b.specs)) next
 
 pub at_least : (a b : ℕ) → (a < b → ⊥) → b ≤ a
-at_least a b no = elim (cases_lt a b) [
-  | inl less ↦ absurd (no less)
+at_least a b never = elim (cases_lt a b) [
+  | inl less ↦ absurd (never less)
   | inr more ↦ more
 ]

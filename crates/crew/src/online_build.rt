@@ -15,9 +15,9 @@ mod scanning;
 mod threads;
 mod working;
 
+use crate::locked::Credit;
 use crate::online_build::loading::load_all;
 use crate::online_build::scanning::scan_all;
-use crate::locked::Credit;
 use crate::{Opened, Table};
 use builder_core::{Building, Ends, Plan};
 pub use gate::{Gate, Point};

@@ -15,7 +15,7 @@ returns-in_err-left g c =
     let left = subst (λ (l : LockedValue). AreEntriesLeft l.state.heap.log l.state.build index entries) c.self.view_is c.in-Ok.ensures.ok in
     let less : index < indexes_of_build live.build = omega (arith, c.loop-index-test.true, c.indexes-index-end.ensures) in
     let next = behind_next live.build live.heap.log index entries less left in
-    let many : 18446744073709551616 ≤ c.loop-index.left + c.len.result = at_least _ _ (c.in_err-left.ensures tt) in
+    let many : 18446744073709551616 ≤ c.loop-index.left + c.len.result = at_least _ _ c.in_err-left.ensures in
     subst (λ r. MatchOption r (18446744073709551616 ≤ waiting_in live) (λ count. count ≡ waiting_in live)) (sym c.from_residual.ensures)
     (omega (arith, many, next, c.loop-index.invariant, c.len.ensures.value))
 
