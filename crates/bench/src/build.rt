@@ -22,7 +22,7 @@ const RANGES_OF_A_WORKER: usize = 8;
 /// A worker takes as many of these ranges as it can, so its spools have room for the parts of so many workers.
 const PARTS_OF_A_SPOOL: usize = 4;
 
-/// How often a build beside writers tries its switch before it is given up: where they are too fast for it, it would never end.
+/// How often a build beside writers tries its switch, where it is to be unique and transactions of theirs are busy.
 const TRIES: u32 = 5_000;
 
 /// What a build is to do, and by which spools.

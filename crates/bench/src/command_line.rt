@@ -41,9 +41,8 @@ With threads there are these phases:
   start          the build starts
   scan           each worker copies pages in holds of the table's lock, and makes their pairs outside of it
   load           the runs are merged, without the lock
-  catch-up       turns that feed and apply entries of the side-files, and try the switch
-  last turn      the one that ends with the switch
-  build          start to last turn
+  catch-up       turns that feed and apply entries of the side-files, and the switch
+  build          start to catch-up
 
 A writer's transaction inserts, updates and deletes a row; 15 of 100 are rolled back. `entries` are those that the changes
 make for each index: from load on they all go into the side-files. A call's time has its wait for the lock in it.

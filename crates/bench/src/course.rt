@@ -4,11 +4,11 @@ use crate::timer::nanos_between;
 use std::sync::atomic::{AtomicU64, Ordering};
 use std::time::{Clock, Instant};
 
-/// The stages of a run in which writers may write, in their order. The last turn of a build is the one that ends with the switch.
-pub const STAGES: usize = 6;
+/// The stages of a run in which writers may write, in their order.
+pub const STAGES: usize = 5;
 
 /// Their names.
-pub static NAMES: [&str; STAGES] = ["before", "start", "scan", "load", "catch-up", "last turn"];
+pub static NAMES: [&str; STAGES] = ["before", "start", "scan", "load", "catch-up"];
 
 pub const START: u64 = 1;
 
@@ -16,38 +16,29 @@ pub const SCAN: u64 = 2;
 
 pub const LOAD: u64 = 3;
 
-/// The step of the first turn of a build; each turn is a step of its own.
-pub const FIRST_TURN: u64 = 4;
-
-/// The place of the turns that the switch kept waiting, among the stages.
-pub const CATCH_UP: usize = 4;
-
-/// The place of the newest turn.
-pub const LAST_TURN: usize = 5;
+pub const CATCH_UP: u64 = 4;
 
 /// How far a run is, as its threads see it, and when it came there.
 #[derive(Drop)]
 pub struct Course {
     pub since: Instant,
     pub step: AtomicU64,
+    /// How many turns the build took.
+    pub turns: AtomicU64,
     /// How many workers have sealed.
     pub sealed: AtomicU64,
     /// Not 0 once the writers are to stop.
     pub is_over: AtomicU64,
     /// In nanoseconds: when each stage began, and when the last one ended.
-    pub begun: [AtomicU64; 7],
+    pub begun: [AtomicU64; 6],
 }
 
 /// The place of a step among the stages.
 pub fn place_of(step: u64) -> usize
     ensures stage { step < 4 → result ≡ step }
-    ensures turn { 4 ≤ step → result ≡ 5 }
+    ensures last { 4 ≤ step → result ≡ 4 }
 {
-    if step < FIRST_TURN {
-        step as usize
-    } else {
-        LAST_TURN
-    }
+    step.min(CATCH_UP) as usize
 }
 
 impl Course {
@@ -55,10 +46,10 @@ impl Course {
         Course {
             since,
             step: AtomicU64::new(0),
+            turns: AtomicU64::new(0),
             sealed: AtomicU64::new(0),
             is_over: AtomicU64::new(0),
             begun: [
-                AtomicU64::new(0),
                 AtomicU64::new(0),
                 AtomicU64::new(0),
                 AtomicU64::new(0),
@@ -72,15 +63,12 @@ impl Course {
     /// The next step begins.
     pub fn go_to<R: Clock>(&self, rt: &R, step: u64) {
         self.mark(rt, place_of(step));
-        if step == FIRST_TURN {
-            self.mark(rt, CATCH_UP);
-        }
         self.step.store(step, Ordering::SeqCst);
     }
 
     /// The stage at that place begins, or the last one ends. A clock that fails tells 0.
     pub fn mark<R: Clock>(&self, rt: &R, place: usize)
-        requires { place < 7 }
+        requires { place < 6 }
     {
         let nanos = match Instant::now(rt) {
             Ok(now) => nanos_between(self.since, now),

@@ -1,4 +1,4 @@
-use crate::course::{CATCH_UP, FIRST_TURN, LAST_TURN, STAGES, place_of};
+use crate::course::{STAGES, place_of};
 use crate::failure::Failure;
 use crate::span::Span;
 use std::alloc::AllocError;
@@ -11,8 +11,6 @@ pub struct Done {
     pub on_page: u16,
     /// What was met in each stage by those that wrote beside the build.
     pub met: [Span; STAGES],
-    /// The step in which the last thing was noted.
-    pub step: u64,
     pub failure: Option<Failure>,
 }
 
@@ -29,17 +27,11 @@ impl Done {
         filled: 0,
         on_page: 0,
         met: [Span::NONE; STAGES],
-        step: 0,
         failure: None,
     };
 
-    /// Notes what was met in a step. What was noted in an earlier turn was not met in the last one.
+    /// Notes what was met in a step.
     pub fn note(&mut self, step: u64, met: Span) {
-        if self.step != step && self.step >= FIRST_TURN {
-            self.met[CATCH_UP] = self.met[CATCH_UP].and(self.met[LAST_TURN]);
-            self.met[LAST_TURN] = Span::NONE;
-        }
-        self.step = step;
         let place = place_of(step);
         self.met[place] = self.met[place].and(met);
     }

@@ -44,7 +44,7 @@ impl Line {
 #[derive(Drop)]
 pub struct Figures {
     pub(crate) lines: [Line; LINES],
-    /// How many pages the spools leased at most, each counted for itself; with threads how many turns it took until the switch decided.
+    /// How many pages the spools leased at most, each counted for itself; with threads how many turns came before the switch.
     pub(crate) count: u64,
 }
 

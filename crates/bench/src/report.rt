@@ -221,7 +221,7 @@ fn add_asked(text: &mut String, options: &Options, count: u64) -> Result<(), All
     write!(text, "{rows} rows of ")?;
     add_columns(text, options)?;
     let counted = if options.threads {
-        "turns until the switch"
+        "turns before the switch"
     } else {
         "pages leased by the spools at most"
     };

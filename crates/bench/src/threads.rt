@@ -3,7 +3,7 @@ ghost use Rattle.std.specs.Prelude.{◌≡◌};
 
 use crate::build::{Work, parts};
 use crate::compare::compared;
-use crate::course::{Course, FIRST_TURN, NAMES, STAGES, START};
+use crate::course::{Course, NAMES, STAGES, START};
 use crate::done::Done;
 use crate::failure::Failure;
 use crate::figures::{Figures, LINES, Line};
@@ -146,7 +146,11 @@ where
     course.mark(rt, STAGES);
     course.is_over.store(1, Ordering::SeqCst);
     match &told {
-        Ok(report) => are_ready(report.verdicts.as_slice()),
+        Ok(report) => {
+            let turns = report.caught_up.turns as u64;
+            course.turns.store(turns, Ordering::SeqCst);
+            are_ready(report.verdicts.as_slice())
+        }
         Err(fault) => Err(Failure::Refused("the build", fault.0)),
     }
 }
@@ -191,9 +195,8 @@ fn figures_of(
         lines[place + 1] = line;
     }
     lines[STAGES + 1] = build;
-    let step = course.step.load(Ordering::SeqCst);
     Figures {
         lines,
-        count: step.saturating_add(1).saturating_sub(FIRST_TURN),
+        count: course.turns.load(Ordering::SeqCst),
     }
 }

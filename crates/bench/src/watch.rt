@@ -1,4 +1,4 @@
-use crate::course::{Course, FIRST_TURN, LOAD, SCAN, START};
+use crate::course::{CATCH_UP, Course, LOAD, SCAN, START};
 use crew::{Gate, Point};
 use std::sync::atomic::Ordering;
 use std::time::Clock;
@@ -27,11 +27,8 @@ impl<R: Clock> Gate for Watch<'_, R> {
                     course.go_to(self.rt, LOAD);
                 }
             }
-            Point::Loaded { .. } => {}
-            Point::Try { n } => {
-                let turn = u64::from(n).saturating_sub(1);
-                course.go_to(self.rt, FIRST_TURN + turn);
-            }
+            Point::Try { n: 1 } => course.go_to(self.rt, CATCH_UP),
+            Point::Loaded { .. } | Point::Try { .. } => {}
         }
     }
 }

@@ -127,15 +127,7 @@ const BESIDE: &[&str] = &[
 
 /// The phases of a run with writers in threads, behind the names of the fields.
 const STAGES: Measured = Measured::Records(&[
-    "phase",
-    "fill",
-    "before",
-    "start",
-    "scan",
-    "load",
-    "catch-up",
-    "last turn",
-    "build",
+    "phase", "fill", "before", "start", "scan", "load", "catch-up", "build",
 ]);
 
 impl Measured {

@@ -1,9 +1,9 @@
 -- Why a step of a build is refused, as far as a start's and a switch's own faults matter.
-use Rattle.std.proofs.Common.{◌≡◌, ◌≢◌, ℕ, Bool, true, false, cond, List, length, Option, Some, None, refl, sym, subst, ◌∙◌, inl, inr}
+use Rattle.std.proofs.Common.{◌≡◌, ◌≢◌, ℕ, ◌≤◌, Bool, true, false, cond, List, length, Option, Some, None, refl, sym, subst, ◌∙◌, inl, inr, arith}
 use Rattle.std.specs.Prelude.{◌&&◌, nat_lt, nat_le, not, is_none, is_some}
 use Rattle.std.specs.List.{list_all, list_any}
 use Rattle.std.specs.Option.{option_map}
-use Rattle.std.proofs.lemmas.Bool.{cases_Bool, and_parts}
+use Rattle.std.proofs.lemmas.Bool.{cases_Bool, and_parts, ltb-true}
 use Rattle.std.proofs.lemmas.Option.{same_Some}
 use Rattle.keybytes.specs.Faults.{first_cause}
 use Rattle.keybytes.specs.Keys.{KeySpecValue}
@@ -23,34 +23,31 @@ use Rattle.build_events.specs.declared.plan.Plan.{Plan}
 use Rattle.crew.specs.Reports.{EndsFor, IsOther}
 
 pub other_memory : IsOther Memory
-other_memory = record { not_full = λ e. cc; not_busy = λ n e. cc }
+other_memory = record { not_full = λ e. cc; not_busy = λ n e. cc; not_behind = λ n e. cc }
 
 pub other_no_page : IsOther NoPage
-other_no_page = record { not_full = λ e. cc; not_busy = λ n e. cc }
+other_no_page = record { not_full = λ e. cc; not_busy = λ n e. cc; not_behind = λ n e. cc }
 
 pub other_no_build : IsOther NoBuild
-other_no_build = record { not_full = λ e. cc; not_busy = λ n e. cc }
+other_no_build = record { not_full = λ e. cc; not_busy = λ n e. cc; not_behind = λ n e. cc }
 
 other_bad_count : IsOther BadCount
-other_bad_count = record { not_full = λ e. cc; not_busy = λ n e. cc }
+other_bad_count = record { not_full = λ e. cc; not_busy = λ n e. cc; not_behind = λ n e. cc }
 
 other_range_done : IsOther RangeDone
-other_range_done = record { not_full = λ e. cc; not_busy = λ n e. cc }
+other_range_done = record { not_full = λ e. cc; not_busy = λ n e. cc; not_behind = λ n e. cc }
 
 other_ring_full : IsOther RingFull
-other_ring_full = record { not_full = λ e. cc; not_busy = λ n e. cc }
+other_ring_full = record { not_full = λ e. cc; not_busy = λ n e. cc; not_behind = λ n e. cc }
 
 pub other_not_scanned : (range : ℕ) → IsOther (NotScanned range)
-other_not_scanned range = record { not_full = λ e. cc; not_busy = λ n e. cc }
+other_not_scanned range = record { not_full = λ e. cc; not_busy = λ n e. cc; not_behind = λ n e. cc }
 
 pub other_not_loaded : (index : ℕ) → IsOther (NotLoaded index)
-other_not_loaded index = record { not_full = λ e. cc; not_busy = λ n e. cc }
+other_not_loaded index = record { not_full = λ e. cc; not_busy = λ n e. cc; not_behind = λ n e. cc }
 
 pub other_not_sealed : (worker : ℕ) → IsOther (NotSealed worker)
-other_not_sealed worker = record { not_full = λ e. cc; not_busy = λ n e. cc }
-
-other_behind : (left : ℕ) → IsOther (Behind left)
-other_behind left = record { not_full = λ e. cc; not_busy = λ n e. cc }
+other_not_sealed worker = record { not_full = λ e. cc; not_busy = λ n e. cc; not_behind = λ n e. cc }
 
 -- want of memory or of a page
 pub other_short : (fault : Fault) → IsShortage fault → IsOther fault
@@ -102,21 +99,22 @@ other_side b index = holds_if IsOther (nat_le (length b.specs) index) BadCount (
 pub record StartsNot (left : List Bool) (fault : Fault) : Type 0 where
   pub full : fault ≡ SpoolNotEmpty → list_all (λ is_empty. is_empty) left ≡ false
   pub not_busy : (count : ℕ) → fault ≢ Busy count
+  pub not_behind : (left : ℕ) → fault ≢ Behind left
 
 other_starts : (left : List Bool) (fault : Fault) → IsOther fault → StartsNot left fault
-other_starts left fault other = record { full = λ e. absurd (other.not_full e); not_busy = other.not_busy }
+other_starts left fault other = record { full = λ e. absurd (other.not_full e); not_busy = other.not_busy; not_behind = other.not_behind }
 
 pub starts_memory : (left : List Bool) → StartsNot left Memory
 starts_memory left = other_starts left Memory other_memory
 
 other_running : IsOther BuildRunning
-other_running = record { not_full = λ e. cc; not_busy = λ n e. cc }
+other_running = record { not_full = λ e. cc; not_busy = λ n e. cc; not_behind = λ n e. cc }
 
 other_column : IsOther BadColumn
-other_column = record { not_full = λ e. cc; not_busy = λ n e. cc }
+other_column = record { not_full = λ e. cc; not_busy = λ n e. cc; not_behind = λ n e. cc }
 
 other_ranges : IsOther BadRanges
-other_ranges = record { not_full = λ e. cc; not_busy = λ n e. cc }
+other_ranges = record { not_full = λ e. cc; not_busy = λ n e. cc; not_behind = λ n e. cc }
 
 unless_ranges : (test : Bool) → Holds IsOther (cond test None (Some BadRanges))
 unless_ranges true = holds_none IsOther
@@ -134,7 +132,7 @@ starts_full left = elim (cases_Bool (list_all (λ is_empty. is_empty) left)) [
   | inl empty ↦ λ fault e. absurd (let none : spools_refusal left ≡ None = rw empty refl in let bad = sym none ∙ e in cc)
   | inr some ↦ λ fault e.
       let is : spools_refusal left ≡ Some SpoolNotEmpty = rw some refl in
-      subst (StartsNot left) (same_Some SpoolNotEmpty fault (sym is ∙ e)) (record { full = λ full. some; not_busy = λ n e. cc })
+      subst (StartsNot left) (same_Some SpoolNotEmpty fault (sym is ∙ e)) (record { full = λ full. some; not_busy = λ n e. cc; not_behind = λ n e. cc })
 ]
 
 pub starts_not : (live : LiveState) (spools : SpoolsState) (plan : Plan) → Holds (StartsNot spools.left) (start_refusal live spools plan)
@@ -150,19 +148,21 @@ starts_not live spools plan =
 -- A switch is refused.
 
 pub ends_other : (specs : List KeySpecValue) (fault : Fault) → IsOther fault → EndsFor specs fault
-ends_other specs fault other = record { not_full = other.not_full; busy = λ n e. absurd (other.not_busy n e) }
+ends_other specs fault other = record { not_full = other.not_full; busy = λ n e. absurd (other.not_busy n e); not_behind = other.not_behind }
 
 pub ends_all : (specs : List KeySpecValue) (cause : Option Fault) → Holds IsOther cause → Holds (EndsFor specs) cause
 ends_all specs cause others fault e = ends_other specs fault (others fault e)
 
-pub ends_behind : (specs : List KeySpecValue) (left : ℕ) → Holds (EndsFor specs) (behind_refusal left)
-ends_behind specs left = ends_all specs (behind_refusal left) (holds_if IsOther _ (Behind left) (λ e. other_behind left))
+-- no switch is that is tried while few entries are left
+pub ends_near : (specs : List KeySpecValue) (left : ℕ) → left ≤ 1024 → Holds (EndsFor specs) (behind_refusal left)
+ends_near specs left few = holds_if (EndsFor specs) _ (Behind left) (λ more. absurd (let less = ltb-true 1024 left more in omega (arith, less, few)))
 
 pub ends_busy : (b : BuildState) (busy : ℕ) → Holds (EndsFor b.specs) (busy_refusal b busy)
 ends_busy b busy =
     holds_if (EndsFor b.specs) (list_any (λ spec. spec.unique) b.specs && nat_lt 0 busy) (Busy busy) (λ e. record {
       not_full = λ bad. cc;
       busy = λ n same. (and_parts (list_any (λ spec. spec.unique) b.specs) (nat_lt 0 busy) e).0;
+      not_behind = λ n bad. cc;
     })
 
 -- what comes first of all, once a build goes on

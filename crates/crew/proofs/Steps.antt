@@ -19,11 +19,14 @@ use Rattle.build_events.specs.BuildSteps.{AreKeyed, OnBuild, Starts, Switches, b
 use Rattle.build_events.specs.CoreState.{BuildState, CoreState, IndexState, LiveState, WorkState}
 use Rattle.build_events.specs.Ranges.{open_range}
 use Rattle.build_events.specs.Verdicts.{accepted, outcomes, verdict_on}
-use Rattle.build_events.specs.Workers.{all_unapplied, unloaded_index}
+use Rattle.build_events.specs.Workers.{all_unapplied, all_unfed, unloaded_index}
 use Rattle.build_events.specs.declared.plan.Plan.{Plan}
 use Rattle.page_workers.proofs.Places.{same_at}
+use Rattle.live_lemmas.proofs.LeftOver.{indexes_many}
+use Rattle.live_lemmas.proofs.Settling.{unapplied_few}
 use Rattle.live_lemmas.proofs.Starts.{has_counts}
 use Rattle.live_lemmas.specs.Builds.{LiveValue, StandsBeside, core_state}
+use Rattle.live_lemmas.specs.Settling.{IsSettled, entries_waiting, waiting_in}
 use Rattle.live_lemmas.specs.Switching.{HandsOver, IsOnlyLookedAt, IsPartOf, KeepsOut, RefusesSwitch}
 use Rattle.page_workers.specs.SpoolValue.{SpoolValue, stakes_of}
 use Rattle.building.proofs.Looked.{lent_looked}
@@ -34,7 +37,7 @@ use Rattle.building.specs.WorkOn.{WorkMatches, IsWorkOfBuild}
 use Rattle.ready_indexes.specs.Indexes.{index_now}
 use Rattle.crew.specs.Reports.{EndsFor, IsOther}
 use Rattle.crew.specs.Places.{GoesOnWith, stakes_beside}
-use Rattle.crew.proofs.Others.{Holds, ends_all, ends_behind, ends_busy, ends_other, holds_build, holds_first, holds_map, holds_none, other_memory, other_no_build, other_not_loaded, other_not_scanned, other_not_sealed}
+use Rattle.crew.proofs.Others.{Holds, ends_all, ends_busy, ends_near, ends_other, holds_build, holds_first, holds_map, holds_none, other_memory, other_no_build, other_not_loaded, other_not_scanned, other_not_sealed}
 
 -- what holds of the build that runs, and which that is
 pub on_build : (o : Option BuildState) (P : BuildState → Type 0) → OnBuild o P → (b : BuildState) × P b × (o ≡ Some b)
@@ -53,7 +56,7 @@ indexes_of (Some fault) building w = refl
 pub spoiled_is : (building : BuildingValue) (w : WorkValue) → building.work ≡ Some w → (work_state building.workers building.work).spoiled ≡ w.spoiled
 spoiled_is building w is = ap (λ (o : Option WorkValue). (work_state building.workers o).spoiled) is ∙ spoiled_of w.spoiled building w
 
-indexes_are : (building : BuildingValue) (w : WorkValue) → building.work ≡ Some w → (work_state building.workers building.work).indexes ≡ map index_state w.indexes
+pub indexes_are : (building : BuildingValue) (w : WorkValue) → building.work ≡ Some w → (work_state building.workers building.work).indexes ≡ map index_state w.indexes
 indexes_are building w is = ap (λ (o : Option WorkValue). (work_state building.workers o).indexes) is ∙ indexes_of w.spoiled building w
 
 -- where callers see no difference, the stakes are the same
@@ -221,7 +224,7 @@ switch_left live new_live building new fault (inr refused) = elim refused.refuse
 ]
 
 -- there is work where a build runs, and it is that build's
-work_there :
+pub work_there :
     (kinds : List Kind) (log : List LogRec) (o : Option BuildState) (b : BuildState) (m : Option WorkValue) → o ≡ Some b → WorkMatches kinds log o m
     → (w : WorkValue) × (m ≡ Some w) × IsWorkOfBuild kinds log b w
 work_there kinds log o b None is work = absurd (let bad : WorkMatches kinds log (Some b) None = subst (λ (x : Option BuildState). WorkMatches kinds log x None) is work in bad)
@@ -260,8 +263,10 @@ still_goes_on live new_live building new fault (inr refused) other count specs o
   | inr want ↦ absurd (other want.1)
 ]
 
-ends_of : (b : BuildState) (heap : HeapState) (work : WorkState) → work.spoiled ≡ None → Holds (EndsFor b.specs) (switch_refusal b heap work)
-ends_of b heap work fine =
+ends_of :
+    (b : BuildState) (heap : HeapState) (work : WorkState) → work.spoiled ≡ None → all_unapplied b heap.log b.specs work.indexes ≤ 1024
+    → Holds (EndsFor b.specs) (switch_refusal b heap work)
+ends_of b heap work fine near =
     let P = EndsFor b.specs in
     let scanned = ends_all b.specs (option_map NotScanned (open_range b)) (holds_map IsOther NotScanned (open_range b) other_not_scanned) in
     let loaded = ends_all b.specs (option_map NotLoaded (unloaded_index work)) (holds_map IsOther NotLoaded (unloaded_index work) other_not_loaded) in
@@ -269,14 +274,25 @@ ends_of b heap work fine =
     (holds_first P (option_map NotScanned (open_range b)) _ scanned
     (holds_first P (option_map NotLoaded (unloaded_index work)) _ loaded
     (holds_first P (behind_refusal (all_unapplied b heap.log b.specs work.indexes)) (busy_refusal b (length (busy_txns heap)))
-    (ends_behind b.specs (all_unapplied b heap.log b.specs work.indexes)) (ends_busy b (length (busy_txns heap))))))
+    (ends_near b.specs (all_unapplied b heap.log b.specs work.indexes) near) (ends_busy b (length (busy_txns heap))))))
 
--- why a switch is refused whose build goes on
+-- as many are left of a settled build as wait for it
+near_by :
+    (live : LiveValue) (building : BuildingValue) (b : BuildState) → live.state.build ≡ Some b → StandsBeside live building → IsSettled (core_state live building)
+    → waiting_in live.state ≤ 1024 → all_unapplied b live.state.heap.log b.specs (core_state live building).work.indexes ≤ 1024
+near_by live building b runs works settled few =
+    let many = indexes_many live building b runs works in
+    let left = unapplied_few (core_state live building) b runs many settled in
+    let waiting : waiting_in live.state ≡ all_unfed b live.state.heap.log = ap (λ (o : Option BuildState). entries_waiting o live.state.heap.log) runs in
+    omega (arith, left, waiting, few)
+
+-- why a switch is refused whose build goes on, is settled, and has few entries left
 pub switch_ends :
     (live new_live : LiveValue) (building new : BuildingValue) (fault : Fault) (w : WorkValue) → building.work ≡ Some w → w.spoiled ≡ None
+    → StandsBeside live building → IsSettled (core_state live building) → waiting_in live.state ≤ 1024
     → RefusesSwitch live building fault new_live new → EndsFor w.specs fault
-switch_ends live new_live building new fault w runs fine (inl out) = ends_other w.specs fault (kept_out true live building fault w runs fine out.cause)
-switch_ends live new_live building new fault w runs fine (inr refused) = elim refused.refused [
+switch_ends live new_live building new fault w runs fine works settled few (inl out) = ends_other w.specs fault (kept_out true live building fault w runs fine out.cause)
+switch_ends live new_live building new fault w runs fine works settled few (inr refused) = elim refused.refused [
   | inl cause ↦
       let b : BuildState = refused.part.of.build in
       let work = (core_state live building).work in
@@ -285,6 +301,6 @@ switch_ends live new_live building new fault w runs fine (inr refused) = elim re
       sym (ap (λ (o : Option BuildState). build_cause o (λ x. switch_refusal x live.state.heap work)) refused.part.of.runs) ∙ cause.0 in
       let its : refused.part.of.work ≡ w = the_work building.work refused.part.of.work w refused.part.of.there runs in
       subst (λ (specs : List KeySpecValue). EndsFor specs fault) (refused.part.of.specs ∙ ap (λ (x : WorkValue). x.specs) its)
-      (ends_of b live.state.heap work none fault why)
+      (ends_of b live.state.heap work none (near_by live building b refused.part.of.runs works settled few) fault why)
   | inr want ↦ ends_other w.specs fault (subst IsOther (sym want.1) other_memory)
 ]

@@ -1,5 +1,5 @@
 -- What a switch under the lock reports.
-use Rattle.std.proofs.Common.{◌≡◌, ℕ, List, [], ◌∷◌, ◌++◌, length, map, drop, Option, Some, None, refl, sym, ap, subst, ◌∙◌}
+use Rattle.std.proofs.Common.{◌≡◌, ℕ, ◌≤◌, List, [], ◌∷◌, ◌++◌, length, map, drop, Option, Some, None, refl, sym, ap, subst, ◌∙◌}
 use Rattle.std.specs.Prelude.{IfSome}
 use Rattle.keybytes.specs.declared.fault.Fault.{Fault}
 use Rattle.keybytes.specs.declared.pair.Pair.{Pair}
@@ -7,7 +7,8 @@ use Rattle.heap_log.specs.declared.outcome.Outcome.{Outcome}
 use Rattle.heap_log.specs.declared.record.LogRec.{LogRec}
 use Rattle.heap_log.specs.declared.record.LogRec.TheVariants.{Switch}
 use Rattle.build_events.specs.BuildSteps.{Switches}
-use Rattle.live_lemmas.specs.Builds.{LiveValue, core_state}
+use Rattle.live_lemmas.specs.Builds.{LiveValue, StandsBeside, core_state}
+use Rattle.live_lemmas.specs.Settling.{IsSettled, waiting_in}
 use Rattle.live_lemmas.specs.Switching.{IsPartOf, RefusesSwitch}
 use Rattle.building.specs.BuildingValue.{BuildingValue, WorkValue}
 use Rattle.ready_indexes.specs.Indexes.{ReadyValue}
@@ -17,7 +18,7 @@ use Rattle.crew.proofs.Reported.{is_report}
 use Rattle.crew.proofs.Steps.{has_switched, switch_ends}
 
 -- what is so of work that there is
-of_work : (o : Option WorkValue) (P : WorkValue → Type 0) → ((w : WorkValue) → o ≡ Some w → P w) → IfSome o P
+pub of_work : (o : Option WorkValue) (P : WorkValue → Type 0) → ((w : WorkValue) → o ≡ Some w → P w) → IfSome o P
 of_work None P each = tt
 of_work (Some w) P each = each w refl
 
@@ -43,7 +44,8 @@ module _
 
 -- why it is refused
 pub switch_ends_for :
-    (live new_live : LiveValue) (building new : BuildingValue) (fault : Fault) → RefusesSwitch live building fault new_live new
-    → IfSome building.work (λ w. w.spoiled ≡ None → EndsFor w.specs fault)
-switch_ends_for live new_live building new fault refused =
-    of_work building.work (λ w. w.spoiled ≡ None → EndsFor w.specs fault) (λ w runs fine. switch_ends live new_live building new fault w runs fine refused)
+    (live new_live : LiveValue) (building new : BuildingValue) (fault : Fault) → StandsBeside live building → IsSettled (core_state live building)
+    → waiting_in live.state ≤ 1024 → RefusesSwitch live building fault new_live new → IfSome building.work (λ w. w.spoiled ≡ None → EndsFor w.specs fault)
+switch_ends_for live new_live building new fault works settled few refused =
+    of_work building.work (λ w. w.spoiled ≡ None → EndsFor w.specs fault) (λ w runs fine.
+    switch_ends live new_live building new fault w runs fine works settled few refused)

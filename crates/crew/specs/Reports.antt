@@ -5,7 +5,7 @@ use Rattle.std.specs.Option.{option_map}
 use Rattle.std.specs.Prelude.{◌≡◌, ◌≢◌, ℕ, IfSome, List, [], ◌∷◌, ◌++◌, Option, map, true}
 use Rattle.keybytes.specs.Keys.{KeySpecValue}
 use Rattle.keybytes.specs.declared.fault.Fault.{Fault}
-use Rattle.keybytes.specs.declared.fault.Fault.TheVariants.{Busy, SpoolNotEmpty}
+use Rattle.keybytes.specs.declared.fault.Fault.TheVariants.{Behind, Busy, SpoolNotEmpty}
 use Rattle.keybytes.specs.declared.pair.Pair.{Pair}
 use Rattle.heap_log.specs.declared.outcome.Outcome.{Outcome}
 use Rattle.heap_log.specs.declared.record.LogRec.{LogRec}
@@ -41,12 +41,15 @@ pub record IsReport
 abbrev pub HasUnique : List KeySpecValue → Type 0
 HasUnique specs = list_any (λ spec. spec.unique) specs ≡ true
 
--- a fault that is neither a start's, for a spool that isn't empty, nor a switch's, for transactions that are busy
+-- a fault that is neither a start's, for a spool that isn't empty, nor a switch's, for transactions that are busy or entries that are left
 pub record IsOther (fault : Fault) : Type 0 where
   pub not_full : fault ≢ SpoolNotEmpty
   pub not_busy : (count : ℕ) → fault ≢ Busy count
+  pub not_behind : (left : ℕ) → fault ≢ Behind left
 
 -- a fault for which a build of these indexes may be given up once it has started
 pub record EndsFor (specs : List KeySpecValue) (fault : Fault) : Type 0 where
   pub not_full : fault ≢ SpoolNotEmpty
   pub busy : (count : ℕ) → fault ≡ Busy count → HasUnique specs
+  -- however quickly sessions write
+  pub not_behind : (left : ℕ) → fault ≢ Behind left

@@ -1,9 +1,10 @@
 //! A build from its start to its switch.
-ghost use Rattle.std.specs.Prelude.{◌≡◌, ◌≢◌, ◌<◌, ℕ, [], All, length, map, None, Some, IfErr, IfOk, IfSome, OnErr, OnOk};
+ghost use Rattle.std.specs.Prelude.{◌≡◌, ◌≢◌, ◌<◌, ◌≤◌, ℕ, ◌+◌, ◌-◌, ◌*◌, ◌^◌, min, [], All, length, map, None, Some, IfErr, IfOk, IfSome, OnErr, OnOk};
 ghost use Rattle.keybytes.specs.Keys.{KeySpecValue};
 ghost use Rattle.keybytes.specs.declared.fault.Fault.{Fault};
 ghost use Rattle.building.specs.Lent.{CanLend};
 ghost use Rattle.crew.specs.Reports.{EndsFor, HasUnique, IsOther, IsReport, lists_in};
+ghost use Rattle.crew.specs.Credits.{TakesMore};
 ghost use Rattle.crew.specs.Places.{GoesOnWith, HasPairsLeft, StillScans, stakes_beside};
 
 mod comes_back;
@@ -15,28 +16,31 @@ mod scanning;
 mod threads;
 mod working;
 
+use crate::locked::Credit;
 use crate::online_build::loading::load_all;
 use crate::online_build::scanning::scan_all;
 use crate::{Opened, Table};
 use builder_core::{Building, Ends, Plan};
 pub use gate::{Gate, Point};
 use keybytes::Fault;
-pub use report::{BuildFault, Report};
+pub use report::{BuildFault, CaughtUp, Report};
 use run_spool::Spool;
 use std::alloc::Global;
 use std::sync::Wait;
 use std::thread;
 use std::thread::Threads;
 
-/// The most entries of an index that are fed in one hold of the lock.
-const FED_MOST: usize = 256;
+/// The most entries that a switch takes, over all indexes.
+const SWITCH_MOST: usize = 1_024;
 
 /// Builds the plan's indexes by a thread for each worker, while sessions write. The workers copy pages under the lock and make their pairs outside
-/// of it; the pairs are then put in order, and at most `tries` turns of the plan feed and apply what was written meanwhile, and try the switch. Where
-/// busy transactions keep the switch waiting, no other transaction begins until the build has decided or is given up.
+/// of it; the pairs are then put in order. Then it catches up in turns, which feed and apply what was written meanwhile, until a switch can take the
+/// rest. Sessions have credit for half as many entries as the build takes: so it catches up however quickly they write, after at most `n / 128` turns
+/// where `n` entries waited at first, and never ends with [`Fault::Behind`]. Where busy transactions keep the switch waiting it is tried again, at
+/// most `tries` times of the plan together, and no other transaction begins until the build has decided or is given up.
 ///
-/// A fault gives the build up: of [`Fault::Behind`] and [`Fault::Busy`] that of the last turn, and of several workers' the lowest worker's. Where a
-/// thread can't be started, it is [`Fault::Memory`]. The ends of the rings and the spools come back in any case, the spools ended.
+/// A fault gives the build up: where it is [`Fault::Busy`], that of the last try, and of several workers' the lowest worker's. Where a thread can't be
+/// started, it is [`Fault::Memory`]. The ends of the rings and the spools come back in any case, the spools ended.
 ///
 /// `rt` is the runtime that `main` hands in. It may wait for the lock, for the threads that it starts, and for the gate.
 pub fn build<S, T, G, R>(
@@ -54,9 +58,11 @@ where
     G: Gate + Sync,
     R: Threads + Wait + Sync,
     ensures report { IfOk result.2 (λ report. IsReport T.opening plan.now.specs.items report.receipt report.verdicts (lists_in report.pairs)) }
+    ensures bounded { IfOk result.2 (λ report. 128 * report.caught_up.turns ≤ report.caught_up.waited) }
     ensures not_empty { IfErr result.2 (λ fault. fault.0 ≡ Fault.SpoolNotEmpty
         → All (λ spool. (S.runs spool ≡ []) × (S.open_run spool ≡ [])) spools.items → ⊥) }
     ensures busy { IfErr result.2 (λ fault. (count : ℕ) → fault.0 ≡ Fault.Busy count → HasUnique plan.now.specs.items) }
+    ensures never_behind { IfErr result.2 (λ fault. (left : ℕ) → fault.0 ≢ Fault.Behind left) }
     ensures ended { All S.ended result.1.items }
     ensures stakes { map S.stake result.1.items ≡ map S.stake spools.items }
 {
@@ -84,8 +90,10 @@ where
     G: Gate + Sync,
     R: Threads + Wait + Sync,
     ensures report { IfOk result.1 (λ report. IsReport T.opening plan.now.specs.items report.receipt report.verdicts (lists_in report.pairs)) }
+    ensures bounded { IfOk result.1 (λ report. 128 * report.caught_up.turns ≤ report.caught_up.waited) }
     ensures not_empty { IfErr result.1 (λ fault. fault ≡ Fault.SpoolNotEmpty → HasPairsLeft building) }
     ensures busy { IfErr result.1 (λ fault. (count : ℕ) → fault ≡ Fault.Busy count → HasUnique plan.now.specs.items) }
+    ensures never_behind { IfErr result.1 (λ fault. (left : ℕ) → fault ≢ Fault.Behind left) }
     ensures stakes { stakes_beside result.0 ≡ stakes_beside building }
 {
     let mut building = building;
@@ -96,6 +104,7 @@ where
     let (building, told) = build_started(rt, alloc, table, plan, gate, building);
     if told.is_err() {
         table.lock().lock(rt).abandon();
+        table.credit_given().notify_all();
     }
     (building, told)
 }
@@ -117,6 +126,7 @@ where
     requires lendable { CanLend building }
     requires goes_on { GoesOnWith 0 plan.now.specs.items building }
     ensures report { IfOk result.1 (λ report. IsReport T.opening plan.now.specs.items report.receipt report.verdicts (lists_in report.pairs)) }
+    ensures bounded { IfOk result.1 (λ report. 128 * report.caught_up.turns ≤ report.caught_up.waited) }
     ensures ends { IfErr result.1 (EndsFor plan.now.specs.items) }
     ensures stakes { stakes_beside result.0 ≡ stakes_beside building }
 {
@@ -141,6 +151,7 @@ fn finish<S: Spool + Send, T: Opened, G: Gate, R: Threads + Wait + Sync>(
     requires goes_on { GoesOnWith 0 plan.now.specs.items building }
     requires scans { StillScans building }
     ensures report { IfOk result.1 (λ report. IsReport T.opening plan.now.specs.items report.receipt report.verdicts (lists_in report.pairs)) }
+    ensures bounded { IfOk result.1 (λ report. 128 * report.caught_up.turns ≤ report.caught_up.waited) }
     ensures ends { IfErr result.1 (EndsFor plan.now.specs.items) }
     ensures stakes { stakes_beside result.0 ≡ stakes_beside building }
 {
@@ -157,7 +168,7 @@ fn finish<S: Spool + Send, T: Opened, G: Gate, R: Threads + Wait + Sync>(
     (building, told)
 }
 
-/// Takes turns until the switch decides, or the last turn has to wait as well. Other threads run in between.
+/// Tries the switch until it decides, or the last try has to wait as well. Other threads run in between.
 fn take_turns<S: Spool, T: Opened, G: Gate, R: Wait>(
     rt: &R,
     alloc: Global,
@@ -168,20 +179,21 @@ fn take_turns<S: Spool, T: Opened, G: Gate, R: Wait>(
 ) -> Result<Report<T>, Fault>
     requires { GoesOnWith (length plan.now.specs.items) plan.now.specs.items building.old }
     ensures report { IfOk result (λ report. IsReport T.opening plan.now.specs.items report.receipt report.verdicts (lists_in report.pairs)) }
+    ensures bounded { IfOk result (λ report. 128 * report.caught_up.turns ≤ report.caught_up.waited) }
     ensures ends { IfErr result (EndsFor plan.now.specs.items) }
     ensures stakes { stakes_beside building.new ≡ stakes_beside building.old }
 {
     for n in 1..plan.tries {
-        match take_turn(rt, alloc, table, plan, gate, building, n) {
-            Err(Fault::Behind(_) | Fault::Busy(_)) => thread::yield_now(),
+        match try_switch(rt, alloc, table, plan, gate, building, n) {
+            Err(Fault::Busy(_)) => thread::yield_now(),
             told => return told,
         }
     }
-    take_turn(rt, alloc, table, plan, gate, building, plan.tries.max(1))
+    try_switch(rt, alloc, table, plan, gate, building, plan.tries.max(1))
 }
 
-/// One turn: what was written meanwhile is fed and applied to each index, and the switch is tried.
-fn take_turn<S: Spool, T: Opened, G: Gate, R: Wait>(
+/// One try: sessions need no credit while the gate is asked; then the build catches up, and the switch is tried.
+fn try_switch<S: Spool, T: Opened, G: Gate, R: Wait>(
     rt: &R,
     alloc: Global,
     table: &Table<T>,
@@ -192,38 +204,99 @@ fn take_turn<S: Spool, T: Opened, G: Gate, R: Wait>(
 ) -> Result<Report<T>, Fault>
     requires { GoesOnWith (length plan.now.specs.items) plan.now.specs.items building.old }
     ensures report { IfOk result (λ report. IsReport T.opening plan.now.specs.items report.receipt report.verdicts (lists_in report.pairs)) }
-    ensures goes_on { IfErr result (λ fault. fault ≢ Fault.Memory
+    ensures bounded { IfOk result (λ report. 128 * report.caught_up.turns ≤ report.caught_up.waited) }
+    ensures goes_on { IfErr result (λ fault. (count : ℕ) → fault ≡ Fault.Busy count
         → GoesOnWith (length plan.now.specs.items) plan.now.specs.items building.new) }
     ensures ends { IfErr result (EndsFor plan.now.specs.items) }
     ensures stakes { stakes_beside building.new ≡ stakes_beside building.old }
 {
     table.lock().lock(rt).note_try(n);
+    table.credit_given().notify_all();
     gate.at(Point::Try { n });
-    catch_up(rt, table, plan, building)?;
-    table
-        .lock()
-        .lock(rt)
-        .switch(alloc, plan.keep_pairs, building)
+    let credit = table.lock().lock(rt).give_credit();
+    let told = catch_up(rt, alloc, table, plan, building, credit);
+    table.credit_given().notify_all();
+    told
 }
 
-/// Feeds what was written meanwhile, and applies it to each index.
+/// Feeds and applies what was written meanwhile, until a switch takes what is left, and tries it in the same hold. While more than 1,024 entries
+/// wait, less than twice as many were taken as waited at first, and each turn takes 256 at least: so it ends, however quickly sessions write.
 fn catch_up<S: Spool, T: Opened, R: Wait>(
     rt: &R,
+    alloc: Global,
     table: &Table<T>,
     plan: &Plan,
     building: &mut Building<S, T>,
-) -> Result<(), Fault>
+    credit: Credit,
+) -> Result<Report<T>, Fault>
+    requires goes_on { GoesOnWith (length plan.now.specs.items) plan.now.specs.items building.old }
+    requires few { credit.first < 2 ^ 63 }
+    ensures report { IfOk result (λ report. IsReport T.opening plan.now.specs.items report.receipt report.verdicts (lists_in report.pairs)) }
+    ensures bounded { IfOk result (λ report. 128 * report.caught_up.turns ≤ report.caught_up.waited) }
+    ensures goes_on { IfErr result (λ fault. (count : ℕ) → fault ≡ Fault.Busy count
+        → GoesOnWith (length plan.now.specs.items) plan.now.specs.items building.new) }
+    ensures ends { IfErr result (EndsFor plan.now.specs.items) }
+    ensures stakes { stakes_beside building.new ≡ stakes_beside building.old }
+{
+    let mut known = credit;
+    let mut turns = 0;
+    loop {
+        if let Some(report) = take_turn(rt, alloc, table, plan, building, &mut known, turns)? {
+            return Ok(report);
+        }
+        turns += 1;
+    }
+}
+
+/// One turn, behind so many others, of the build that knows the credit so: where few entries wait it tries the switch; else it feeds some of each index
+/// and applies them outside of the lock.
+fn take_turn<S: Spool, T: Opened, R: Wait>(
+    rt: &R,
+    alloc: Global,
+    table: &Table<T>,
+    plan: &Plan,
+    building: &mut Building<S, T>,
+    known: &mut Credit,
+    turns: usize,
+) -> Result<Option<Report<T>>, Fault>
+    requires goes_on { GoesOnWith (length plan.now.specs.items) plan.now.specs.items building.old }
+    requires few { known.old.first < 2 ^ 63 }
+    ensures report { IfOk result (λ told. IfSome told (λ report.
+        IsReport T.opening plan.now.specs.items report.receipt report.verdicts (lists_in report.pairs))) }
+    ensures goes_on { IfErr result (λ fault. (count : ℕ) → fault ≡ Fault.Busy count
+        → GoesOnWith (length plan.now.specs.items) plan.now.specs.items building.new) }
+    ensures caught_up { IfOk result (λ told. IfSome told (λ report. report.caught_up ≡ record { waited = known.old.first; turns = turns })) }
+    ensures further { IfOk result (λ told. told ≡ None
+        → GoesOnWith (length plan.now.specs.items) plan.now.specs.items building.new × TakesMore known.old known.new) }
+    ensures ends { IfErr result (EndsFor plan.now.specs.items) }
+    ensures stakes { stakes_beside building.new ≡ stakes_beside building.old }
+{
+    let mut locked = table.lock().lock(rt);
+    let left = locked.settle(*known, building)?;
+    if left <= SWITCH_MOST {
+        let caught_up = CaughtUp {
+            waited: known.first,
+            turns,
+        };
+        return Ok(Some(locked.switch(alloc, plan.keep_pairs, caught_up, building)?));
+    }
+    let fed = locked.feed_all(building);
+    drop(locked);
+    table.credit_given().notify_all();
+    *known = known.after_taking(fed);
+    apply_all(plan, building)?;
+    Ok(None)
+}
+
+/// Applies to each index the entries that are in its ring.
+fn apply_all<S: Spool, T: Opened>(plan: &Plan, building: &mut Building<S, T>) -> Result<(), Fault>
     requires { GoesOnWith (length plan.now.specs.items) plan.now.specs.items building.old }
     ensures goes_on { OnOk result (GoesOnWith (length plan.now.specs.items) plan.now.specs.items building.new) }
-    ensures still { IfErr result (λ fault. fault ≢ Fault.Memory
-        → GoesOnWith (length plan.now.specs.items) plan.now.specs.items building.new) }
-    ensures other { IfErr result IsOther }
+    ensures memory { IfErr result (λ fault. fault ≡ Fault.Memory) }
     ensures stakes { stakes_beside building.new ≡ stakes_beside building.old }
 {
     for index in 0..plan.specs.len() {
-        table.lock().lock(rt).feed(index, FED_MOST)?;
-        let applied = apply_seen(plan, building, index)?;
-        table.lock().lock(rt).note_applied(applied);
+        apply_seen(plan, building, index)?;
     }
     Ok(())
 }
@@ -233,7 +306,7 @@ fn apply_seen<S: Spool, T: Opened>(
     plan: &Plan,
     building: &mut Building<S, T>,
     index: usize,
-) -> Result<usize, Fault>
+) -> Result<(), Fault>
     requires goes_on { GoesOnWith (length plan.now.specs.items) plan.now.specs.items building.old }
     requires there { index < length plan.now.specs.items }
     ensures goes_on { OnOk result (GoesOnWith (length plan.now.specs.items) plan.now.specs.items building.new) }
@@ -241,5 +314,6 @@ fn apply_seen<S: Spool, T: Opened>(
     ensures memory { IfErr result (λ fault. fault ≡ Fault.Memory) }
 {
     let seen = building.look_for_entries(index);
-    building.apply(index, seen)
+    building.apply(index, seen)?;
+    Ok(())
 }

@@ -25,9 +25,10 @@ pub struct Progress {
     pub loaded: usize,
     /// How many pairs that were, in all these indexes together.
     pub pairs: usize,
-    /// How many changes of keys, in all indexes together, were written behind the scans and aren't applied yet.
+    /// How many changes of keys, in all indexes together, were written behind the scans and aren't applied yet; those that a turn applies are
+    /// counted until the next one begins.
     pub entries: usize,
-    /// The number of the turn that feeds, applies and tries the switch, from 1.
+    /// How often the build has begun to catch up and to try the switch: again only where busy transactions kept the switch waiting.
     pub tries: u32,
     /// How many open transactions have a write that stands. The switch of a unique index waits for them.
     pub busy: usize,
@@ -76,12 +77,12 @@ impl Progress {
         self.entries = self.entries.saturating_add(count);
     }
 
-    /// So many of these were applied.
-    pub(crate) fn note_applied(&mut self, count: usize) {
-        self.entries = self.entries.saturating_sub(count);
+    /// All of these were applied.
+    pub(crate) fn note_settled(&mut self) {
+        self.entries = 0;
     }
 
-    /// The turn of that number begins.
+    /// The try of that number begins.
     pub(crate) fn note_try(&mut self, n: u32) {
         self.phase = Phase::CatchingUp;
         self.tries = n;

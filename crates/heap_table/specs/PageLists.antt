@@ -1,10 +1,10 @@
 -- The pages of a table as a list of values: the slot of a RID, and pages by what a function gives each RID.
-use Rattle.std.specs.Prelude.{◌≡◌, ◌<◌, ◌≤◌, ◌+◌, Vec, vec_len, vec_capacity, is_some, nat_le, ℕ, max, nat_lt, Bool, true, false, if◌then◌else◌, Option, Some}
+use Rattle.std.specs.Prelude.{◌≡◌, ◌<◌, ◌≤◌, is_some, nat_le, ℕ, max, nat_lt, Bool, true, false, if◌then◌else◌, Option, Some}
 use Rattle.std.specs.Prelude.{None, List, [], ◌∷◌, ◌++◌, length, map, get_or, set}
 use Rattle.std.specs.List.{range_with_len}
+use Rattle.chunk_list.specs.ChunkValue.{ChunkValue}
 use Rattle.keybytes.specs.declared.rid.Rid.{Rid}
 use Rattle.slotted_page.specs.Slot.{Slot, free, held, row, reserve_of}
-use Rattle.std.specs.declared.alloc.Global.{Global}
 use Rattle.slotted_page.specs.Page.{PageValue, slot_at, with_slot, room_for}
 use Rattle.heap_table.specs.Rooms.{RoomsValue}
 use Rattle.heap_table.specs.Pages.{rid_at}
@@ -68,8 +68,8 @@ pub record RoomsAreOf (pages : List PageValue) (rooms : List ℕ) : Type 0 where
   pub takes : (i len : ℕ) (d : PageValue) → i < length pages → 0 < len → is_some (room_for (get_or pages i d) len) ≡ nat_le len (get_or rooms i 0)
 
 -- the rooms go with the pages, and there is memory for that many more of both
-pub record ArePages (pages : Vec PageValue Global) (rooms : RoomsValue) (limit spare : ℕ) : Type 0 where
+pub record ArePages (pages : ChunkValue PageValue) (rooms : RoomsValue) (limit spare : ℕ) : Type 0 where
   pub some : 0 < limit
   pub follow : RoomsAreOf pages.items rooms.rooms
-  pub pages_room : vec_len pages + spare ≤ vec_capacity pages
+  pub pages_room : spare ≤ pages.room
   pub rooms_room : spare ≤ rooms.spare

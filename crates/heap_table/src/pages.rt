@@ -1,5 +1,5 @@
 //! The pages of a table, by number.
-ghost use Rattle.std.specs.Prelude.{ℕ, is_some, nat_le, ◌≡◌, ◌<◌, ◌≤◌, ◌+◌, ◌∷◌, ◌++◌, [], length, max, cond, nat_lt, get_or, position, vec_len, Some, None};
+ghost use Rattle.std.specs.Prelude.{ℕ, is_some, nat_le, ◌≡◌, ◌<◌, ◌≤◌, ◌+◌, ◌∷◌, ◌++◌, [], length, max, cond, nat_lt, get_or, position, Some, None};
 ghost use Rattle.std.specs.Prelude.{true, IfSome, IfErr, OnOk, OnErr, MatchOption};
 ghost use Rattle.slotted_page.specs.Slot.{row, held, bytes_of, reserve_of, IsRow, IsTaken, IsRowSize};
 ghost use Rattle.slotted_page.specs.Page.{PageValue, slot_at, with_slot, room_for, fits_at};
@@ -7,6 +7,7 @@ ghost use Rattle.heap_table.specs.HeapState.{takes};
 ghost use Rattle.heap_table.specs.PageLists.{new_page, page_or_new, slot_in, with_slot_in, settled};
 
 use crate::rooms::Rooms;
+use chunk_list::ChunkList;
 use keybytes::{Fault, Rid};
 use slotted_page::Page;
 use std::alloc::Global;
@@ -19,7 +20,7 @@ use std::marker::Model;
 /// logarithmic time.
 #[derive(Drop)]
 pub struct Pages {
-    pages: Vec<Page>,
+    pages: ChunkList<Page>,
     /// The greatest insert that each page takes.
     rooms: Rooms,
     slot_limit: u8,
@@ -45,7 +46,7 @@ impl Pages {
         ensures spare { result.spare ≡ 0 }
     {
         Pages {
-            pages: Vec::new(alloc),
+            pages: ChunkList::new(alloc),
             rooms: Rooms::new(alloc),
             slot_limit,
             spare: 0,
@@ -61,7 +62,7 @@ impl Pages {
 
     /// Where their memory comes from.
     pub fn allocator(&self) -> Global {
-        *self.pages.allocator()
+        self.pages.allocator()
     }
 
     /// The page of that number.

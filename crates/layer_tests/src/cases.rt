@@ -1,6 +1,7 @@
 //! Cases of all layers, by tables, and what runs them.
 
 use crate::calling::{finds_both, finds_least, rolls_back};
+use crate::chunks::{self, ListStep, Numbers, QueueStep};
 use crate::desk::first_other;
 use crate::logs::{self, Records};
 use crate::merges::{self, Course};
@@ -12,6 +13,7 @@ use crate::tables::{self, Shape};
 use crate::trees::tree_answers;
 use crate::workers::pages_go_through;
 use crate::{entries, pages};
+use chunk_list::ChunkList;
 use keybytes::Fault;
 use slotted_page::Page;
 use std::alloc::Global;
@@ -24,6 +26,9 @@ pub const DONE: Told = Ok(None);
 
 /// Something of a layer, with its steps.
 pub enum Layer {
+    /// Lists and queues that grow by chunks.
+    List(&'static [ListStep]),
+    Queue(&'static [QueueStep]),
     Rows(&'static [rows::Step]),
     /// A page with so many slots.
     Page(u8, &'static [pages::Step]),
@@ -131,8 +136,9 @@ static OTHERS: [Case; 14] = [
     },
 ];
 
-fn all() -> [&'static [Case]; 7] {
+fn all() -> [&'static [Case]; 8] {
     [
+        &chunks::CASES,
         &rows::CASES,
         &pages::CASES,
         &logs::CASES,
@@ -145,6 +151,8 @@ fn all() -> [&'static [Case]; 7] {
 
 fn told<R: Threads + Sync>(rt: &R, alloc: Global, layer: &Layer) -> Told {
     match layer {
+        Layer::List(steps) => first_other(&mut ChunkList::new(alloc), steps),
+        Layer::Queue(steps) => first_other(&mut Numbers::new(alloc), steps),
         Layer::Rows(steps) => first_other(&mut Rows(alloc), steps),
         Layer::Page(slots, steps) => first_other(&mut Page::new(*slots)?, steps),
         Layer::Log(steps) => first_other(&mut Records::new(alloc), steps),

@@ -6,6 +6,8 @@ mod calling;
 #[cfg(test)]
 mod cases;
 #[cfg(test)]
+mod chunks;
+#[cfg(test)]
 mod desk;
 #[cfg(test)]
 mod entries;

@@ -101,7 +101,7 @@ fn write_phase<W: Write>(out: &mut W, progress: Progress) -> io::Result<()> {
         ),
         Phase::CatchingUp => write!(
             out,
-            "catching up, turn: {tries}, changes left: {entries}, busy transactions: {busy}"
+            "catching up, try: {tries}, changes left: {entries}, busy transactions: {busy}"
         ),
     }
 }

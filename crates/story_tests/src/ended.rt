@@ -60,7 +60,7 @@ fn decided<T: Opened>(
     let Report {
         receipt,
         verdicts,
-        pairs: _,
+        ..
     } = report;
     let mut receipts = receipts;
     let _has_room = receipts.reserve(1).is_ok() || receipts.reserve(1).is_ok();

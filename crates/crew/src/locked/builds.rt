@@ -1,19 +1,22 @@
 //! The steps of a build that are done under the lock.
-ghost use Rattle.std.specs.Prelude.{◌≡◌, ◌≢◌, ℕ, ◌<◌, List, length, map, take, drop, Some, None, IfOk, IfErr, IfSome, OnErr, OnOk, true, false, All};
+ghost use Rattle.std.specs.Prelude.{◌≡◌, ◌≢◌, ◌⊎◌, ℕ, ◌<◌, ◌≤◌, ◌+◌, ◌*◌, ◌^◌, List, length, map, take, drop, Some, None, IfOk, IfErr, IfSome, OnErr, OnOk, true, false, All};
 ghost use Rattle.keybytes.specs.Keys.{KeySpecValue};
 ghost use Rattle.keybytes.specs.declared.fault.Fault.{Fault};
 ghost use Rattle.building.specs.IndexLoads.{CanLoadAll};
 ghost use Rattle.building.specs.Lent.{CanLend};
 ghost use Rattle.ready_indexes.specs.Following.{indexes_of};
+ghost use Rattle.live_lemmas.specs.Settling.{waiting_in};
+ghost use Rattle.crew.specs.Credits.{IsSettledBeside};
 ghost use Rattle.crew.specs.Reports.{EndsFor, IsOther, IsReport, lists_in};
 ghost use Rattle.crew.specs.Places.{GoesOnWith, HasPairsLeft, StillScans, stakes_beside};
 
-use crate::locked::{Locked, copied};
-use crate::{Opened, Progress, Receipt, Report};
+use crate::locked::{Credit, Locked, copied};
+use crate::{CaughtUp, Opened, Progress, Receipt, Report};
 use builder_core::{Building, Plan, ReadyIndexes};
 use heap_table::PageImage;
 use keybytes::{Fault, Pair};
 use run_spool::Spool;
+use side_file::RING_ENTRIES;
 use std::alloc::Global;
 
 impl<T: Opened> Locked<T> {
@@ -28,9 +31,11 @@ impl<T: Opened> Locked<T> {
         ensures stakes { stakes_beside building.new ≡ stakes_beside building.old }
         ensures not_empty { IfErr result (λ fault. fault ≡ Fault.SpoolNotEmpty → HasPairsLeft building.old) }
         ensures not_busy { IfErr result (λ fault. (count : ℕ) → fault ≢ Fault.Busy count) }
+        ensures not_behind { IfErr result (λ fault. (left : ℕ) → fault ≢ Fault.Behind left) }
         ensures log { self.new.state.heap.log ≡ self.old.state.heap.log }
     {
         let number = self.live.start(plan, building)?;
+        self.credit = None;
         self.progress = Progress::started(self.live.heap().pages());
         Ok(number)
     }
@@ -45,6 +50,7 @@ impl<T: Opened> Locked<T> {
         ensures other { IfErr result (λ back. IsOther back.1) }
         ensures log { self.new.state.heap.log ≡ self.old.state.heap.log }
     {
+        self.credit = None;
         let page = self.live.scan_step(range, worker, image)?;
         self.progress.note_page();
         Ok(page)
@@ -58,6 +64,7 @@ impl<T: Opened> Locked<T> {
         ensures other { IfErr result (λ fault. IfSome building.old.work (λ w. w.spoiled ≡ None → IsOther fault)) }
         ensures log { self.new.state.heap.log ≡ self.old.state.heap.log }
     {
+        self.credit = None;
         // What is kept of the indexes is known once it is told.
         building.laws();
         self.live.end_scan(building)?;
@@ -65,14 +72,58 @@ impl<T: Opened> Locked<T> {
         Ok(())
     }
 
-    /// Moves the next entries of an index's side-file into its ring.
-    pub(crate) fn feed(&mut self, index: usize, most: usize) -> Result<usize, Fault>
-        ensures other { IfErr result IsOther }
+    /// Applies what was fed to the indexes of the build that knows the credit so, and answers how many entries wait for it then.
+    /// [`Fault::NoBuild`] where that isn't the build that has it.
+    pub(crate) fn settle<S: Spool>(
+        &mut self,
+        known: Credit,
+        building: &mut Building<S, T>,
+    ) -> Result<usize, Fault>
+        ensures left { IfOk result (λ left. left ≡ waiting_in self.new.state) }
+        ensures paced { IfOk result (λ left. 1024 < left → 2 * left + known.taken ≤ 1024 + 2 * known.first) }
+        ensures same { OnOk result (self.new.credit ≡ Some known) }
+        ensures settled { OnOk result (IsSettledBeside self.new building.new) }
+        ensures goes_on { OnOk result ((count : ℕ) (specs : List KeySpecValue) → GoesOnWith count specs building.old → GoesOnWith count specs building.new) }
+        ensures stakes { stakes_beside building.new ≡ stakes_beside building.old }
+        ensures other { IfErr result (λ fault. IfSome building.old.work (λ w. w.spoiled ≡ None → IsOther fault)) }
         ensures log { self.new.state.heap.log ≡ self.old.state.heap.log }
     {
-        let fed = self.live.feed(index, most)?;
+        self.check_credit(known)?;
+        // What is kept of the indexes is known once it is told.
+        building.laws();
+        self.live.settle(building)?;
+        self.progress.note_settled();
+        Ok(self.live.entries_left())
+    }
+
+    /// Whether the credit is that which the build knows.
+    fn check_credit(&self, known: Credit) -> Result<(), Fault>
+        ensures same { OnOk result (self.now.credit ≡ Some known) }
+        ensures other { IfErr result (λ fault. fault ≡ Fault.NoBuild) }
+    {
+        match self.credit {
+            Some(credit) if credit.first == known.first && credit.taken == known.taken => Ok(()),
+            _ => Err(Fault::NoBuild),
+        }
+    }
+
+    /// Moves the next entries of each side-file into its ring, at most as many as a ring has room for, and answers how many those are together.
+    pub(crate) fn feed_all<S: Spool>(&mut self, building: &mut Building<S, T>) -> usize
+        requires settled { IsSettledBeside self.old building.old }
+        requires countable { IfSome self.old.credit (λ credit. credit.taken + waiting_in self.old.state < 2 ^ 64) }
+        ensures taken { IfSome self.old.credit (λ credit. self.new.credit ≡ Some (record credit { taken = credit.taken + result })) }
+        ensures left { waiting_in self.new.state + result ≡ waiting_in self.old.state }
+        ensures many { (256 ≤ result) ⊎ (result ≡ waiting_in self.old.state) }
+        ensures goes_on { (count : ℕ) (specs : List KeySpecValue) → GoesOnWith count specs building.old → GoesOnWith count specs building.new }
+        ensures stakes { stakes_beside building.new ≡ stakes_beside building.old }
+        ensures log { self.new.state.heap.log ≡ self.old.state.heap.log }
+    {
+        let fed = self.live.feed_all(RING_ENTRIES, building);
         self.progress.note_fed(fed);
-        Ok(fed)
+        if let Some(credit) = self.credit {
+            self.credit = Some(credit.after_taking(fed));
+        }
+        fed
     }
 
     /// Gives the build up, if one runs.
@@ -80,20 +131,25 @@ impl<T: Opened> Locked<T> {
         ensures none { self.new.state.build ≡ None }
         ensures log { self.new.state.heap.log ≡ self.old.state.heap.log }
     {
+        self.credit = None;
         self.live.give_up();
         self.progress = Progress::idle();
     }
 
-    /// Switches the indexes in, and answers what the build reports, with the pairs if they are asked for. Where busy transactions keep it waiting
+    /// Switches the indexes in, and answers what the build reports, with the pairs if they are asked for, and how it caught up. Where busy transactions keep it waiting
     /// no other transaction begins from here on.
     pub(crate) fn switch<S: Spool>(
         &mut self,
         alloc: Global,
         keep_pairs: bool,
+        caught_up: CaughtUp,
         building: &mut Building<S, T>,
     ) -> Result<Report<T>, Fault>
+        requires settled { IsSettledBeside self.old building.old }
+        requires few { waiting_in self.old.state ≤ 1024 }
         ensures report { IfOk result (λ report. IfSome building.old.work
             (λ w. IsReport T.opening w.specs report.receipt report.verdicts (lists_in report.pairs))) }
+        ensures caught_up { IfOk result (λ report. report.caught_up ≡ caught_up) }
         ensures log { IfOk result (λ report. report.receipt ≡ self.new.state.heap.log) }
         ensures same { OnErr result (self.new.state.heap.log ≡ self.old.state.heap.log) }
         ensures stakes { stakes_beside building.new ≡ stakes_beside building.old }
@@ -101,6 +157,7 @@ impl<T: Opened> Locked<T> {
             → (count : ℕ) (specs : List KeySpecValue) → GoesOnWith count specs building.old → GoesOnWith count specs building.new) }
         ensures ends { IfErr result (λ fault. IfSome building.old.work (λ w. w.spoiled ≡ None → EndsFor w.specs fault)) }
     {
+        self.credit = None;
         let first = self.live.ready().len();
         match self.live.switch_in(building) {
             Ok(switched) => {
@@ -112,6 +169,7 @@ impl<T: Opened> Locked<T> {
                     receipt,
                     verdicts: switched.verdicts,
                     pairs,
+                    caught_up,
                 })
             }
             Err(fault) => {

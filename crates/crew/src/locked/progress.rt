@@ -1,8 +1,10 @@
 //! What is noted under the lock of how far a build is.
-ghost use Rattle.std.specs.Prelude.{◌≡◌, length};
+ghost use Rattle.std.specs.Prelude.{◌≡◌, ◌<◌, ◌≤◌, ◌^◌, Some, length, true, false};
 ghost use Rattle.heap_table.specs.HeapState.{busy_txns};
+ghost use Rattle.crew.specs.Credits.{WriteHasCredit, indexes_of_build};
+ghost use Rattle.live_lemmas.specs.Settling.{waiting_in};
 
-use crate::locked::Locked;
+use crate::locked::{Credit, Locked};
 use crate::{Opened, Progress};
 
 impl<T: Opened> Locked<T> {
@@ -11,24 +13,46 @@ impl<T: Opened> Locked<T> {
         ensures { result.busy ≡ length (busy_txns self.now.state.heap) }
     {
         let mut progress = self.progress;
-        progress.entries = progress.entries.saturating_add(self.entries_left());
+        progress.entries = progress.entries.saturating_add(self.live.entries_left());
         progress.busy = self.live.heap().busy();
         progress
     }
 
-    /// How many entries of the side-files aren't fed yet.
-    fn entries_left(&self) -> usize {
-        let mut left: usize = 0;
-        let indexes = match self.live.specs() {
+    /// How many indexes the build that runs has.
+    pub(crate) fn indexes(&self) -> usize
+        ensures { result ≡ indexes_of_build self.now.state.build }
+    {
+        match self.live.specs() {
             Some(specs) => specs.len(),
             None => 0,
-        };
-        for index in 0..indexes {
-            if let Ok(entries) = self.live.side(index) {
-                left = left.saturating_add(entries.len());
-            }
         }
-        left
+    }
+
+    /// Whether a session that wants to write has to wait for the build.
+    pub(crate) fn is_spent(&self) -> bool
+        ensures may { result ≡ false → WriteHasCredit self.now.state self.now.credit }
+        ensures spent { result ≡ true → WriteHasCredit self.now.state self.now.credit → ⊥ }
+        ensures some { result ≡ true → 512 ≤ waiting_in self.now.state }
+    {
+        let Some(credit) = self.credit else {
+            return false;
+        };
+        credit.is_spent(self.live.entries_left(), self.indexes())
+    }
+
+    /// The build begins to catch up: sessions have credit from here on, which it is answered.
+    pub(crate) fn give_credit(&mut self) -> Credit
+        ensures state { self.new.state ≡ self.old.state }
+        ensures credit { result ≡ record { first = waiting_in self.old.state; taken = 0 } }
+        ensures given { self.new.credit ≡ Some result }
+        ensures few { result.first < 2 ^ 63 }
+    {
+        let credit = Credit {
+            first: self.live.entries_left(),
+            taken: 0,
+        };
+        self.credit = Some(credit);
+        credit
     }
 
     /// An index has its pairs in order, which are so many.
@@ -38,17 +62,12 @@ impl<T: Opened> Locked<T> {
         self.progress.note_loaded(pairs);
     }
 
-    /// So many entries that were fed are applied.
-    pub(crate) fn note_applied(&mut self, count: usize)
-        ensures { self.new ≡ self.old }
-    {
-        self.progress.note_applied(count);
-    }
-
-    /// The turn of that number begins.
+    /// The try of that number begins. Sessions need no credit until more is given.
     pub(crate) fn note_try(&mut self, n: u32)
-        ensures { self.new ≡ self.old }
+        ensures state { self.new.state ≡ self.old.state }
+        ensures lifted { self.new.credit ≡ None }
     {
+        self.credit = None;
         self.progress.note_try(n);
     }
 }

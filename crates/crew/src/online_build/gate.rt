@@ -7,7 +7,8 @@ pub enum Point {
     Sealed { worker: usize },
     /// The pairs of the index are in order.
     Loaded { index: usize },
-    /// A turn begins that feeds, applies and tries the switch, numbered from 1.
+    /// The build begins to catch up with what was written, and tries the switch then, for the time of that number, from 1: again only where busy
+    /// transactions kept the switch waiting. While the gate is asked sessions need no credit.
     Try { n: u32 },
 }
 

@@ -12,6 +12,17 @@ pub struct Report<T: Opened> {
     /// The pairs of each index that is ready now, as the switch left them; none where the plan didn't ask for them, or where no memory was left
     /// for a copy.
     pub pairs: Option<Vec<Vec<Pair>>>,
+    /// How it caught up with those who write.
+    pub caught_up: CaughtUp,
+}
+
+/// How a build caught up with those who write, the last time that it tried its switch.
+#[derive(Clone, Copy, PartialEq, Eq)]
+pub struct CaughtUp {
+    /// How many changes of keys waited when it began, over all its indexes.
+    pub waited: usize,
+    /// How many turns fed and applied such changes, before the one that switched.
+    pub turns: usize,
 }
 
 /// Why a build was given up.

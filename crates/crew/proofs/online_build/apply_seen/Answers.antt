@@ -5,7 +5,6 @@ use Rattle.page_workers.proofs.Places.{there_is}
 use Rattle.building.proofs.Applying.{can_apply_seen}
 use Rattle.crew.specs.Places.{GoesOnWith}
 use Rattle.crew.proofs.Loads.{applied_goes_on, seen_goes_on}
-use Rattle.crew.proofs.Results.{ok_on}
 use Rattle.crew.proofs.online_build.apply_seen.Goals as goal
 
 pub apply-requires : goal.apply-requires
@@ -25,5 +24,4 @@ returns-clause-goes_on g c =
     let specs : List KeySpecValue = c.args.plan.now.specs.items in
     let seen = c.look_for_entries-seen in
     let on = seen_goes_on c.args.index c.args.building.now seen.result seen.new.self seen.ensures (length specs) specs c.requires.goes_on in
-    ok_on _ (GoesOnWith (length specs) specs c.apply.new.self) c.apply.result
-    (λ count does. applied_goes_on c.args.index seen.new.self seen.result c.apply.new.self does.1 (length specs) specs on) c.apply.ensures.applied
+    applied_goes_on c.args.index seen.new.self seen.result c.apply.new.self c.in_ok-apply.ensures.applied.1 (length specs) specs on

@@ -1,4 +1,7 @@
-use Rattle.std.proofs.Common.{length, sym, ap, ◌∙◌, rules}
+use Rattle.std.proofs.Common.{◌≤◌, length, subst, sym, ap, ◌∙◌, rules}
+use Rattle.live_lemmas.specs.Builds.{StandsBeside, core_state}
+use Rattle.live_lemmas.specs.Settling.{IsSettled, waiting_in}
+use Rattle.crew.specs.Credits.{LockedValue, live_in}
 use Rattle.crew.proofs.MadeReady.{switched_more}
 use Rattle.crew.proofs.Steps.{still_goes_on, switch_left}
 use Rattle.crew.specs.Reports.{lists_in}
@@ -22,11 +25,14 @@ returns-in-Err-clause-goes_on g c =
 
 pub returns-in-Err-clause-ends : goal.returns-in-Err-clause-ends
 returns-in-Err-clause-ends g c =
-    switch_ends_for c.self.inside.live c.switch_in.new.self c.args.building.now c.switch_in.new.building c.in-Err.fault c.in-Err.ensures.refused
+    let works = subst (λ (l : LockedValue). StandsBeside (live_in l) c.args.building.now) (sym c.self.view_is) c.requires.settled.works in
+    let settled = subst (λ (l : LockedValue). IsSettled (core_state (live_in l) c.args.building.now)) (sym c.self.view_is) c.requires.settled.settled in
+    let few = subst (λ (l : LockedValue). waiting_in l.state ≤ 1024) (sym c.self.view_is) c.requires.few in
+    switch_ends_for c.self.inside.live c.switch_in.new.self c.args.building.now c.switch_in.new.building c.in-Err.fault works settled few c.in-Err.ensures.refused
 
 pub invariant_of-self : goal.invariant_of-self
 invariant_of-self g c =
     let made =
     switched_more g.T.Opened.opening c.self.inside.live c.switch_in.new.self c.args.building.now c.switch_in.new.building
     (c.in-Ok.switched.number, c.in-Ok.switched.verdicts) c.in-Ok.ensures.switched c.self.invariant.2 in
-    (search rules, (made.since, sym made.goes_on), made)
+    (search rules, (made.since, sym made.goes_on), made, tt)

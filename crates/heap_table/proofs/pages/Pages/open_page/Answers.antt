@@ -6,6 +6,6 @@ pub invariant_of-self : goal.invariant_of-self
 invariant_of-self c = record {
   some = c.self.invariant.some;
   follow = rw (c.push_reserved.ensures.items, c.push.ensures.rooms) (rooms_pushed _ _ c.room_of.result c.in-Ok.page c.self.invariant.follow c.room_of.ensures);
-  pages_room = omega (arith, c.push_reserved.ensures.len, c.push_reserved.ensures.capacity, c.self.invariant.pages_room);
+  pages_room = omega (arith, c.push_reserved.ensures.room, c.self.invariant.pages_room);
   rooms_room = omega (arith, c.push.ensures.spare, c.self.invariant.rooms_room);
 }

@@ -1,4 +1,4 @@
-use Rattle.std.proofs.Common.{rules, ◌≡◌, ◌<◌, None, ℕ, length, arith}
+use Rattle.std.proofs.Common.{rules, ◌≡◌, ◌<◌, None, length, arith}
 use Rattle.build_events.specs.Ranges.{open_range}
 use Rattle.live_lemmas.specs.Builds.{IsRunning}
 use Rattle.live_lemmas.proofs.LoadLooked.{may_load, none_left, one_left}

@@ -1,0 +1,65 @@
+-- What sessions may write beside a build that catches up.
+use Rattle.std.specs.Prelude.{◌≡◌, ◌⊎◌, ℕ, ◌+◌, ◌*◌, ◌<◌, ◌≤◌, List, length, Option, Some, None}
+use Rattle.build_events.specs.CoreState.{BuildState, LiveState}
+use Rattle.side_file.specs.Ends.{PutEnd}
+use Rattle.side_file.specs.declared.entry.Entry.{Entry}
+use Rattle.page_workers.specs.declared.copied.Copied.{Copied}
+use Rattle.building.specs.BuildingValue.{BuildingValue}
+use Rattle.live_lemmas.specs.Builds.{LiveValue, StandsBeside, core_state}
+use Rattle.live_lemmas.specs.Settling.{IsSettled, waiting_in}
+use Rattle.crew.specs.declared.locked.credit.Credit.{Credit}
+
+-- A table behind its lock: what it is by itself, and what credit sessions have, where a build catches up
+pub record LockedValue : Type 0 where
+  pub state : LiveState
+  pub pages : List (PutEnd Copied)
+  pub sides : List (PutEnd Entry)
+  pub credit : Option Credit
+
+-- the table with that credit
+abbrev pub locked_with : LiveValue → Option Credit → LockedValue
+locked_with live credit = record { state = live.state; pages = live.pages; sides = live.sides; credit = credit }
+
+-- and without it
+abbrev pub live_in : LockedValue → LiveValue
+live_in locked = record { state = locked.state; pages = locked.pages; sides = locked.sides }
+
+-- what stands beside the table is of its build, and all that was fed to each index is applied
+pub record IsSettledBeside (locked : LockedValue) (building : BuildingValue) : Type 0 where
+  pub works : StandsBeside (live_in locked) building
+  pub settled : IsSettled (core_state (live_in locked) building)
+
+-- how many indexes the build has, if one runs
+abbrev pub indexes_of_build : Option BuildState → ℕ
+indexes_of_build None = 0
+indexes_of_build (Some b) = length b.specs
+
+-- None is lost: what waits and what was taken is what waited first and what sessions appended since. And unless fewer than 512 waited before the last
+-- write, which adds two entries an index at the most, they appended at most half as many as were taken, and 512
+pub record KeepsCredit (waiting indexes : ℕ) (credit : Credit) : Type 0 where
+  pub appended : ℕ
+  pub counted : waiting + credit.taken ≡ credit.first + appended
+  pub paced : (waiting < 512 + 2 * indexes) ⊎ (2 * appended ≤ 1024 + credit.taken)
+
+-- a session may write: fewer than 512 entries wait, or there is credit for all that a write may append
+pub record MayWrite (waiting indexes : ℕ) (credit : Credit) : Type 0 where
+  pub appended : ℕ
+  pub counted : waiting + credit.taken ≡ credit.first + appended
+  pub may : (waiting < 512) ⊎ (2 * (appended + 2 * indexes) ≤ 1024 + credit.taken)
+
+-- what holds of the credit, if there is one, whenever the lock is free
+abbrev pub CreditIsKept : LiveState → Option Credit → Type 0
+CreditIsKept live None = Unit {0}
+CreditIsKept live (Some credit) = KeepsCredit (waiting_in live) (indexes_of_build live.build) credit
+
+-- a session may write to that table
+abbrev pub WriteHasCredit : LiveState → Option Credit → Type 0
+WriteHasCredit live None = Unit {0}
+WriteHasCredit live (Some credit) = MayWrite (waiting_in live) (indexes_of_build live.build) credit
+
+-- a turn took as many entries as a ring has places for at least, where more than a switch takes waited: then what was taken before is
+-- less than twice what waited at first
+pub record TakesMore (old new : Credit) : Type 0 where
+  pub first : new.first ≡ old.first
+  pub more : old.taken + 256 ≤ new.taken
+  pub bounded : old.taken + 1026 ≤ 2 * old.first
