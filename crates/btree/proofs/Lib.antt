@@ -20,3 +20,8 @@ pub mod Weaves
 pub mod Sets
 pub mod Keys
 pub mod Crosses
+pub mod Changing
+pub mod LeafSteps
+pub mod Ordered
+pub mod Stops
+pub mod Turns

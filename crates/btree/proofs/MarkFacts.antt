@@ -11,7 +11,7 @@ onward : (a b c : Pair) → is_before a b ≡ true → is_before b c ≡ true �
 onward = before-strict.onward
 
 -- a < b and b ≤ c
-lt_le : (a b c : Pair) → is_before a b ≡ true → is_before c b ≡ false → is_before a c ≡ true
+pub lt_le : (a b c : Pair) → is_before a b ≡ true → is_before c b ≡ false → is_before a c ≡ true
 lt_le a b c p q = elim (cases_Bool (is_before a c)) [
   | inl e ↦ e
   | inr e ↦ elim (cases_Bool (is_before c a)) [
@@ -21,7 +21,7 @@ lt_le a b c p q = elim (cases_Bool (is_before a c)) [
 ]
 
 -- a ≤ b and b < c
-le_lt : (a b c : Pair) → is_before b a ≡ false → is_before b c ≡ true → is_before a c ≡ true
+pub le_lt : (a b c : Pair) → is_before b a ≡ false → is_before b c ≡ true → is_before a c ≡ true
 le_lt a b c p q = elim (cases_Bool (is_before a c)) [
   | inl e ↦ e
   | inr e ↦ elim (cases_Bool (is_before c a)) [

@@ -1,3 +1,4 @@
+pub mod Changes
 pub mod Falls
 pub mod From
 pub mod Growing

@@ -5,9 +5,12 @@
 //! empty. A look-up, an insert and a removal go down one path and search in each node.
 //!
 //! [`Tree::make_room`] takes the memory that one insert may need and changes nothing else; [`Tree::insert`] then can't fail.
-//! A [`Loader`] makes a tree of pairs that come in order.
+//! A [`Loader`] makes a tree of pairs that come in order. [`Tree::apply_sorted`] makes a queue of changes: as far as they are in order, it
+//! goes down to each leaf once for all changes that belong there.
 #![tactic(auto)]
 
+mod applying;
+mod change;
 mod growing;
 mod loader;
 mod node;
@@ -17,7 +20,9 @@ mod rooting;
 mod spare;
 mod split;
 mod tree;
+mod walking;
 
+pub use change::Change;
 pub use loader::Loader;
 pub use pairs::Pairs;
 pub use range::Range;

@@ -1,4 +1,5 @@
-ghost use Rattle.std.specs.Prelude.{◌≡◌, ◌≤◌, [], ◌∷◌, ◌++◌, suc, not, vec_len};
+ghost use Rattle.std.specs.Prelude.{◌≡◌, ◌≤◌, ◌<◌, [], ◌∷◌, ◌++◌, suc, not, length, take, vec_len};
+ghost use Rattle.btree.specs.Changes.{AreInOrder, Walked, WantsSplit};
 ghost use Rattle.btree.specs.From.{LeafFrom, from, from_next, NextAbove};
 ghost use Rattle.btree.specs.Growing.{LevelsAfter};
 ghost use Rattle.btree.specs.Levels.{levels_over};
@@ -9,10 +10,13 @@ ghost use Rattle.btree.specs.Splits.{Inserted, Appended, AllBlank, LeafBlank, Is
 ghost use Rattle.btree.specs.Nodes.{IsFanned};
 ghost use Rattle.btree.specs.Weave.{weave, height_of};
 
+use crate::change::{Change, Steps};
 use crate::growing::{insert_into_fan, insert_into_leaf};
 use crate::spare::Spare;
 use crate::split::{Growth, Split};
+use crate::walking::{apply_to_leaf, first_share};
 use keybytes::{Key, Pair, Rid};
+use std::collections::VecDeque;
 use std::marker::Model;
 use tree_nodes::{Fan, Leaf};
 
@@ -150,6 +154,33 @@ impl Node {
                         split: insert_into_fan(fan, place, split, spare),
                     },
                 }
+            }
+        }
+    }
+
+    /// Makes changes from the front of the queue, at most that many, which are in order, up to one for which a node has to be split. It goes
+    /// to a child once for all changes that belong there.
+    pub fn apply(&mut self, queue: &mut VecDeque<Change>, count: usize) -> Steps
+        requires within { count ≤ length queue.old.items }
+        requires order { AreInOrder (take count queue.old.items) }
+        ensures walked { Walked count self.old.marks self.new.marks queue.old.items queue.new.items result }
+        ensures stops { result.taken < count → WantsSplit queue.new.items self.new.marks }
+        ensures height { self.new.height ≡ self.old.height }
+    {
+        match &mut self.kind {
+            Kind::Leaf(leaf) => apply_to_leaf(leaf, queue, count),
+            Kind::Fan(fan) => {
+                let mut steps = Steps::none();
+                'children: while steps.taken < count {
+                    let share = first_share(fan, queue, count - steps.taken);
+                    let more = fan.child_mut(share.place).apply(queue, share.count);
+                    let stops = more.taken < share.count;
+                    steps = steps.then(more);
+                    if stops {
+                        return steps;
+                    }
+                }
+                steps
             }
         }
     }

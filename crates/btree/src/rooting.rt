@@ -1,6 +1,7 @@
 //! Inserts into a whole tree, which may grow at its root.
-ghost use Rattle.std.specs.Prelude.{◌≡◌, ◌≤◌, ◌+◌, ◌++◌, suc, not, length, vec_len};
+ghost use Rattle.std.specs.Prelude.{◌≡◌, ◌≤◌, ◌<◌, ◌+◌, ◌++◌, suc, not, length, take, IsSome, vec_len};
 ghost use Rattle.tree_nodes.specs.Lists.{has, without, IsRising};
+ghost use Rattle.btree.specs.Changes.{AreInOrder, Walked, WantsSplit};
 ghost use Rattle.btree.specs.Growing.{levels_raised};
 ghost use Rattle.btree.specs.Grown.{GrownBy};
 ghost use Rattle.btree.specs.Loading.{marks_behind, height_behind, leaves_behind, LevelsBehind};
@@ -10,12 +11,14 @@ ghost use Rattle.btree.specs.Roots.{marks_under, height_under};
 ghost use Rattle.btree.specs.Splits.{marks_after, SplitAt, AllBlank, IsStocked, LeafBlank, IsUsed};
 ghost use Rattle.btree.specs.TreeValue.{AreFilledAbove};
 
+use crate::change::{Change, Steps};
 use crate::growing::leaf_of;
 use crate::loader::Full;
 use crate::node::Node;
 use crate::spare::Spare;
 use crate::split::{Growth, Split};
 use keybytes::{Key, Pair, Rid};
+use std::collections::VecDeque;
 use tree_nodes::Leaf;
 
 /// A root that may be higher by one than before.
@@ -94,6 +97,21 @@ pub fn remove_under(root: &mut Option<Node>, key: &Key, rid: Rid) -> bool
     match root {
         Some(root) => root.remove(key, rid),
         None => false,
+    }
+}
+
+/// Makes changes from the front of the queue in a tree of that root, if it has one: at most that many, which are in order, up to one for which
+/// a node has to be split.
+pub fn apply_under(root: &mut Option<Node>, queue: &mut VecDeque<Change>, count: usize) -> Steps
+    requires within { count ≤ length queue.old.items }
+    requires order { AreInOrder (take count queue.old.items) }
+    ensures walked { Walked count (marks_under root.old) (marks_under root.new) queue.old.items queue.new.items result }
+    ensures stops { IsSome root.old → result.taken < count → WantsSplit queue.new.items (marks_under root.new) }
+    ensures height { height_under root.new ≡ height_under root.old }
+{
+    match root {
+        Some(root) => root.apply(queue, count),
+        None => Steps::none(),
     }
 }
 

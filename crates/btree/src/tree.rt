@@ -1,23 +1,27 @@
-ghost use Rattle.std.specs.Prelude.{◌≡◌, true, [], length, map, min, take, IsOk, IfOk, IfErr, OnOk, Some, if◌then◌else◌};
+ghost use Rattle.std.specs.Prelude.{◌≡◌, ◌≤◌, ◌+◌, true, [], length, map, min, take, IsOk, IfOk, IfErr, OnOk, Some, if◌then◌else◌};
 ghost use Rattle.std.specs.FinMap.{contains_key};
 ghost use Rattle.std.specs.List.{slice_get};
 ghost use Rattle.keybytes.specs.Pairs.{set_of, with_pair, without_pair, AreOrdered};
 ghost use Rattle.tree_nodes.specs.Lists.{IsRising};
 ghost use Rattle.tree_nodes.specs.Order.{PairsRise};
+ghost use Rattle.btree.specs.Changes.{changed, AreInOrder, Made};
 ghost use Rattle.btree.specs.From.{from};
 ghost use Rattle.btree.specs.Left.{pairs_left, range_left};
 ghost use Rattle.btree.specs.Marks.{mark_before, pairs_in, leaves_in};
 ghost use Rattle.btree.specs.Splits.{IsTidy};
 ghost use Rattle.btree.specs.TreeValue.{rids_of, pairs_between};
 
+use crate::applying::apply_run;
+use crate::change::{Change, count_in_order};
 use crate::node::Node;
 use crate::pairs::Pairs;
 use crate::range::Range;
-use crate::rooting::{Rooted, insert_under, remove_under};
+use crate::rooting::{Rooted, apply_under, insert_under, remove_under};
 use crate::spare::Spare;
 use keybytes::{Fault, KEY_INLINE, Key, Pair, Rid};
 use std::alloc::Global;
 use std::cmp::Ordering;
+use std::collections::VecDeque;
 use std::marker::Model;
 
 /// Pairs of a key and a RID in order, none twice. Contracts see the list of the pairs, whether there is room for one more,
@@ -240,6 +244,39 @@ impl Tree {
         let found = remove_under(&mut self.root, key, rid);
         self.count -= one_if(found);
         found
+    }
+
+    /// Makes the changes, from the first to the last. As far as they are in the order of their pairs it goes down to each leaf once for all
+    /// that belong there. Only an insert for which a leaf has to be split goes a way of its own, and may want memory: then what is not made yet
+    /// stays in the queue.
+    pub fn apply_sorted(&mut self, queue: &mut VecDeque<Change>) -> Result<(), Fault>
+        ensures made { Made self.old.pairs self.new.pairs queue.old.items queue.new.items }
+        ensures whole { changed queue.new.items (set_of self.new.pairs) ≡ changed queue.old.items (set_of self.old.pairs) }
+        ensures all { OnOk result (queue.new.items ≡ []) }
+        ensures memory { IfErr result (λ fault. fault ≡ Fault.Memory) }
+    {
+        'runs: while !queue.is_empty() {
+            let count = count_in_order(queue);
+            apply_run(self, queue, count)?;
+        }
+        Ok(())
+    }
+
+    /// Makes changes from the front of the queue, at most that many, which are in order, up to one for which a node has to be split. Answers
+    /// how many.
+    pub(crate) fn walk(&mut self, queue: &mut VecDeque<Change>, count: usize) -> usize
+        requires within { count ≤ length queue.old.items }
+        requires order { AreInOrder (take count queue.old.items) }
+        ensures made { Made self.old.pairs self.new.pairs queue.old.items queue.new.items }
+        ensures few { result ≤ count }
+        ensures taken { length queue.new.items + result ≡ length queue.old.items }
+    {
+        let most = count.min(usize::MAX - self.count);
+        self.ready = false;
+        let steps = apply_under(&mut self.root, queue, most);
+        self.count += steps.added;
+        self.count -= steps.removed;
+        steps.taken
     }
 }
 

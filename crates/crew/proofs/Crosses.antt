@@ -10,6 +10,7 @@ use denote.Struct.Tuple.{TupleAt, parts, type_at}
 use Rattle.std.proofs.Crossing.{crosses}
 use Rattle.log_prefixes.proofs.known.Known.TheSendSync as known
 use Rattle.log_prefixes.proofs.keeper.Keeper.TheSendSync as keeper
+use Rattle.crew.proofs.locked.credit.Credit.TheSendSync as credit
 use Rattle.crew.proofs.progress.Progress.TheSendSync as progress
 use Rattle.log_prefixes.specs.declared.named.Named as named
 use Rattle.page_workers.specs.declared.table_rings.TableRings as table
@@ -22,8 +23,16 @@ use Rattle.crew.specs.contracts.session.Session as Session
 
 module _ (T : RattleType) (o : opened.Ghosts T.Denot) (n : named.Ghosts T.Denot) (t : table.Ghosts T.Denot) where
   locked_send : IsSend (Locked.the_row T o n t)
-  locked_send = view_send (Inside.the_row T o n t) _ _ _ _ (declared_send (Inside.the_type T o n t)
-      (search (live_send, sendable) depth 20, (search (keeper.the_send, sendable) depth 20, (search (progress.the_send, sendable) depth 20, tt))))
+  locked_send = view_send (Inside.the_row T o n t) _ _ _ _ (declared_send (Inside.the_type T o n t) (
+    search (live_send, sendable) depth 20,
+    (
+      search (keeper.the_send, sendable) depth 20,
+      (
+        search (progress.the_send, sendable) depth 20,
+        (search (credit.the_send, sendable) depth 20, tt),
+      ),
+    ),
+  ))
 
   pub table_sync : IsSync (Table.the_row T o n t)
   table_sync = search (locked_send, sendable, crosses) depth 20

@@ -1,17 +1,18 @@
 -- How many indexes a table made ready since it was opened.
-use Rattle.std.proofs.Common.{◌≡◌, ℕ, ◌+◌, cond, List, [], ◌∷◌, ◌++◌, length, map, length-append, append-nil, append_assoc, refl, sym, ap, ◌∙◌, arith}
+use Rattle.std.proofs.Common.{◌≡◌, ℕ, ◌+◌, cond, List, [], ◌∷◌, ◌++◌, length, map, Option, Some, None, length-append, append-nil, append_assoc, refl, sym, ap, ◌∙◌, arith}
 use Rattle.std.specs.Prelude.{count_by}
 use Rattle.std.proofs.lemmas.List.{length-map}
 use Rattle.std.proofs.lemmas.List.Sums.{sum_by-cons, sum_by_push}
 use Rattle.keybytes.specs.Keys.{KeySpecValue}
+use Rattle.heap_table.specs.HeapState.{HeapState, after_step}
 use Rattle.heap_log.specs.declared.outcome.Outcome.{Outcome}
 use Rattle.heap_log.specs.declared.outcome.Outcome.TheVariants.{Ready}
 use Rattle.heap_log.specs.declared.record.LogRec.{LogRec}
-use Rattle.heap_log.specs.declared.record.LogRec.TheVariants.{Switch}
+use Rattle.heap_log.specs.declared.record.LogRec.TheVariants.{Switch, Undo}
 use Rattle.unique_verdict.specs.Verdicts.{accepts}
 use Rattle.unique_verdict.specs.declared.verdict.Verdict.{Verdict}
 use Rattle.unique_verdict.specs.declared.verdict.Verdict.TheVariants.{Unique, Shared}
-use Rattle.ready_indexes.specs.Indexes.{ReadyValue, index_now}
+use Rattle.ready_indexes.specs.Indexes.{ReadyValue, index_now, ready_now}
 use Rattle.build_events.specs.BuildSteps.{Switches}
 use Rattle.build_events.specs.CoreState.{CoreState, LiveState}
 use Rattle.build_events.specs.Verdicts.{accepted, next_number, outcome, outcomes, verdict_on}
@@ -32,6 +33,18 @@ one_more opening log rec ready had = record {
   goes_on = ap (λ (l : List LogRec). l ++ rec ∷ []) had.goes_on ∙ append_assoc opening had.since (rec ∷ []);
   counted = ap (λ (n : ℕ). n + ready_by rec) had.counted ∙ sym (sum_by_push ready_by had.since rec);
 }
+
+-- a record that makes none ready
+pub one_written :
+    (opening log new : List LogRec) (rec : LogRec) (ready now : ℕ) → ready_by rec ≡ 0 → new ≡ log ++ rec ∷ [] → now ≡ ready → HasMadeReady opening log ready
+    → HasMadeReady opening new now
+one_written opening log new rec ready now none is same had =
+    let more = one_more opening log rec ready had in
+    record {
+      since = more.since;
+      goes_on = is ∙ more.goes_on;
+      counted = same ∙ sym (omega (arith, none)) ∙ more.counted;
+    }
 
 -- an index that is accepted is ready, and one that is refused is not
 one_outcome :
@@ -70,3 +83,24 @@ switched_more opening live new_live building new told does had =
       goes_on = ap (λ (l : LiveState). l.heap.log) left ∙ more.goes_on;
       counted = ap (λ (l : LiveState). length l.ready) left ∙ length-append live.state.ready added ∙ ap (λ (n : ℕ). ready + n) many ∙ more.counted;
     }
+
+-- a change of a row makes none ready
+pub rows_made :
+    (opening : List LogRec) (old new : LiveState) (rec : LogRec) → ready_by rec ≡ 0 → new.heap.log ≡ old.heap.log ++ rec ∷ []
+    → new.ready ≡ ready_now new.heap.log old.ready → HasMadeReady opening old.heap.log (length old.ready)
+    → HasMadeReady opening new.heap.log (length new.ready)
+rows_made opening old new rec none log ready had =
+    one_written opening old.heap.log new.heap.log rec (length old.ready) (length new.ready) none log
+    (ap length ready ∙ length-map old.ready (λ (index : ReadyValue). index_now new.heap.log index.spec)) had
+
+-- nor does an undo step
+pub undo_made :
+    (opening : List LogRec) (old new : LiveState) (txn : ℕ) (newest : Option ℕ) → new.heap ≡ after_step old.heap txn newest
+    → new.ready ≡ ready_now new.heap.log old.ready → HasMadeReady opening old.heap.log (length old.ready)
+    → HasMadeReady opening new.heap.log (length new.ready)
+undo_made opening old new txn (Some n) heap ready had = rows_made opening old new (Undo txn n) refl (ap (λ (h : HeapState). h.log) heap) ready had
+undo_made opening old new txn None heap ready had =
+    let log : new.heap.log ≡ old.heap.log = ap (λ (h : HeapState). h.log) heap in
+    let many : length new.ready ≡ length old.ready =
+    ap length ready ∙ length-map old.ready (λ (index : ReadyValue). index_now new.heap.log index.spec) in
+    record { since = had.since; goes_on = log ∙ had.goes_on; counted = many ∙ had.counted }

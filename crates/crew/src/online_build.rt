@@ -1,5 +1,5 @@
 //! A build from its start to its switch.
-ghost use Rattle.std.specs.Prelude.{◌≡◌, ◌≢◌, ◌<◌, ℕ, [], All, length, map, None, Some, IfErr, IfOk, IfSome, OnErr, OnOk};
+ghost use Rattle.std.specs.Prelude.{◌≡◌, ◌≢◌, ◌<◌, ℕ, ◌+◌, ◌-◌, ◌*◌, ◌^◌, min, [], All, length, map, None, Some, IfErr, IfOk, IfSome, OnErr, OnOk};
 ghost use Rattle.keybytes.specs.Keys.{KeySpecValue};
 ghost use Rattle.keybytes.specs.declared.fault.Fault.{Fault};
 ghost use Rattle.building.specs.Lent.{CanLend};
@@ -15,6 +15,7 @@ mod scanning;
 mod threads;
 mod working;
 
+use crate::locked::Credit;
 use crate::online_build::loading::load_all;
 use crate::online_build::scanning::scan_all;
 use crate::{Opened, Table};
@@ -30,6 +31,9 @@ use std::thread::Threads;
 
 /// The most entries of an index that are fed in one hold of the lock.
 const FED_MOST: usize = 256;
+
+/// The most entries that a switch takes, over all indexes.
+const SWITCH_MOST: usize = 1_024;
 
 /// Builds the plan's indexes by a thread for each worker, while sessions write. The workers copy pages under the lock and make their pairs outside
 /// of it; the pairs are then put in order, and at most `tries` turns of the plan feed and apply what was written meanwhile, and try the switch. Where
@@ -96,6 +100,7 @@ where
     let (building, told) = build_started(rt, alloc, table, plan, gate, building);
     if told.is_err() {
         table.lock().lock(rt).abandon();
+        table.credit_given().notify_all();
     }
     (building, told)
 }
@@ -157,7 +162,7 @@ fn finish<S: Spool + Send, T: Opened, G: Gate, R: Threads + Wait + Sync>(
     (building, told)
 }
 
-/// Takes turns until the switch decides, or the last turn has to wait as well. Other threads run in between.
+/// Tries the switch until it decides, or the last try has to wait as well. Other threads run in between.
 fn take_turns<S: Spool, T: Opened, G: Gate, R: Wait>(
     rt: &R,
     alloc: Global,
@@ -172,16 +177,16 @@ fn take_turns<S: Spool, T: Opened, G: Gate, R: Wait>(
     ensures stakes { stakes_beside building.new ≡ stakes_beside building.old }
 {
     for n in 1..plan.tries {
-        match take_turn(rt, alloc, table, plan, gate, building, n) {
-            Err(Fault::Behind(_) | Fault::Busy(_)) => thread::yield_now(),
+        match try_switch(rt, alloc, table, plan, gate, building, n) {
+            Err(Fault::Busy(_)) => thread::yield_now(),
             told => return told,
         }
     }
-    take_turn(rt, alloc, table, plan, gate, building, plan.tries.max(1))
+    try_switch(rt, alloc, table, plan, gate, building, plan.tries.max(1))
 }
 
-/// One turn: what was written meanwhile is fed and applied to each index, and the switch is tried.
-fn take_turn<S: Spool, T: Opened, G: Gate, R: Wait>(
+/// One try: sessions need no credit while the gate is asked; then the build catches up, and the switch is tried.
+fn try_switch<S: Spool, T: Opened, G: Gate, R: Wait>(
     rt: &R,
     alloc: Global,
     table: &Table<T>,
@@ -198,16 +203,86 @@ fn take_turn<S: Spool, T: Opened, G: Gate, R: Wait>(
     ensures stakes { stakes_beside building.new ≡ stakes_beside building.old }
 {
     table.lock().lock(rt).note_try(n);
+    table.credit_given().notify_all();
     gate.at(Point::Try { n });
-    catch_up(rt, table, plan, building)?;
-    table
-        .lock()
-        .lock(rt)
-        .switch(alloc, plan.keep_pairs, building)
+    let told = table.lock().lock(rt).give_credit();
+    let told = match told {
+        Some(first) => catch_up(rt, alloc, table, plan, building, first),
+        None => Err(Fault::Memory),
+    };
+    table.credit_given().notify_all();
+    told
+}
+/// Feeds and applies what was written meanwhile, of which so many entries waited at first, until a switch takes what is left, and tries it in the same
+/// hold. While more than 1,024 entries wait, at most twice as many were taken as waited at first, and each turn takes one at least.
+fn catch_up<S: Spool, T: Opened, R: Wait>(
+    rt: &R,
+    alloc: Global,
+    table: &Table<T>,
+    plan: &Plan,
+    building: &mut Building<S, T>,
+    first: usize,
+) -> Result<Report<T>, Fault>
+    requires { GoesOnWith (length plan.now.specs.items) plan.now.specs.items building.old }
+    ensures report { IfOk result (λ report. IsReport T.opening plan.now.specs.items report.receipt report.verdicts (lists_in report.pairs)) }
+    ensures goes_on { IfErr result (λ fault. fault ≢ Fault.Memory
+        → GoesOnWith (length plan.now.specs.items) plan.now.specs.items building.new) }
+    ensures ends { IfErr result (EndsFor plan.now.specs.items) }
+    ensures stakes { stakes_beside building.new ≡ stakes_beside building.old }
+{
+    let mut known = Credit { first, taken: 0 };
+    for _ in 0..turns_of(first) {
+        if let Some(report) = take_turn(rt, alloc, table, plan, building, &mut known)? {
+            return Ok(report);
+        }
+    }
+    unreachable!()
+}
+/// How many turns it takes at most until no more than a switch takes are left.
+fn turns_of(first: usize) -> usize
+    ensures { result ≡ min (2 * first + 2) (2 ^ 64 - 1) }
+{
+    first.saturating_mul(2).saturating_add(2)
 }
 
-/// Feeds what was written meanwhile, and applies it to each index.
-fn catch_up<S: Spool, T: Opened, R: Wait>(
+/// One turn of the build that knows the credit so: where few entries wait it tries the switch; else it feeds some of each index and applies them outside
+/// of the lock.
+fn take_turn<S: Spool, T: Opened, R: Wait>(
+    rt: &R,
+    alloc: Global,
+    table: &Table<T>,
+    plan: &Plan,
+    building: &mut Building<S, T>,
+    known: &mut Credit,
+) -> Result<Option<Report<T>>, Fault>
+    requires { GoesOnWith (length plan.now.specs.items) plan.now.specs.items building.old }
+    ensures report { IfOk result (λ told. IfSome told (λ report.
+        IsReport T.opening plan.now.specs.items report.receipt report.verdicts (lists_in report.pairs))) }
+    ensures goes_on { IfErr result (λ fault. fault ≢ Fault.Memory
+        → GoesOnWith (length plan.now.specs.items) plan.now.specs.items building.new) }
+    ensures further { IfOk result (λ told. told ≡ None
+        → GoesOnWith (length plan.now.specs.items) plan.now.specs.items building.new) }
+    ensures ends { IfErr result (EndsFor plan.now.specs.items) }
+    ensures stakes { stakes_beside building.new ≡ stakes_beside building.old }
+{
+    let mut locked = table.lock().lock(rt);
+    let left = locked.left_beside(plan.specs.len(), *known)?;
+    if left <= SWITCH_MOST {
+        return Ok(Some(locked.switch(alloc, plan.keep_pairs, building)?));
+    }
+    let fed = locked.feed_all(plan.specs.len(), FED_MOST)?;
+    drop(locked);
+    table.credit_given().notify_all();
+    let Some(taken) = known.after_taking(fed) else {
+        return Err(Fault::Memory);
+    };
+    *known = taken;
+    apply_all(rt, table, plan, building)?;
+    Ok(None)
+}
+
+/// Applies to each index the entries that are in its ring.
+fn apply_all<S: Spool, T: Opened, R: Wait>(
     rt: &R,
     table: &Table<T>,
     plan: &Plan,
@@ -215,13 +290,10 @@ fn catch_up<S: Spool, T: Opened, R: Wait>(
 ) -> Result<(), Fault>
     requires { GoesOnWith (length plan.now.specs.items) plan.now.specs.items building.old }
     ensures goes_on { OnOk result (GoesOnWith (length plan.now.specs.items) plan.now.specs.items building.new) }
-    ensures still { IfErr result (λ fault. fault ≢ Fault.Memory
-        → GoesOnWith (length plan.now.specs.items) plan.now.specs.items building.new) }
-    ensures other { IfErr result IsOther }
+    ensures memory { IfErr result (λ fault. fault ≡ Fault.Memory) }
     ensures stakes { stakes_beside building.new ≡ stakes_beside building.old }
 {
     for index in 0..plan.specs.len() {
-        table.lock().lock(rt).feed(index, FED_MOST)?;
         let applied = apply_seen(plan, building, index)?;
         table.lock().lock(rt).note_applied(applied);
     }

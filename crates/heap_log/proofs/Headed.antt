@@ -1,9 +1,8 @@
 -- The heads of transactions and RIDs once a record is added.
-use Rattle.std.proofs.Common.{◌≡◌, ℕ, zero, suc, get_or, replicate, add-one, ◌+◌, ◌-◌, ◌/◌, ◌<◌, ◌≤◌, Bool, true, false, cond, List, [], ◌∷◌, ◌++◌, length, Option, Some, None}
+use Rattle.std.proofs.Common.{◌≡◌, ℕ, zero, suc, get_or, add-one, ◌+◌, ◌-◌, ◌<◌, ◌≤◌, Bool, true, false, List, [], ◌∷◌, ◌++◌, length, Option, Some, None}
 use Rattle.std.proofs.Common.{refl, sym, ap, ◌∙◌, arith, inl, inr}
-use Rattle.std.specs.Prelude.{not, ◌==◌, if◌then◌else◌, nat_eq, IsSome, unwrap_or}
-use Rattle.std.proofs.lemmas.List.{get_or-replicate}
-use Rattle.std.proofs.lemmas.Bool.{cases_Bool, cases_eq, and_left, and_right, and_parts, eqb-true, eq-eqb, not_from_true, not_from_false, and_from, false≢true}
+use Rattle.std.specs.Prelude.{not, ◌==◌, IsSome}
+use Rattle.std.proofs.lemmas.Bool.{cases_Bool, and_left, and_right, and_parts, eqb-true, eq-eqb, not_from_true, not_from_false, and_from, false≢true}
 use Rattle.std.proofs.lemmas.Bool.{false_from_ne_true, cond-true, cond-false}
 use Rattle.keybytes.specs.declared.cell.Cell.{Cell}
 use Rattle.keybytes.specs.declared.rid.Rid.{Rid}
@@ -13,9 +12,8 @@ use Rattle.heap_log.specs.declared.txn_head.TxnHead.{TxnHead}
 use Rattle.heap_log.specs.declared.rid_head.RidHead.{RidHead}
 use Rattle.heap_log.specs.declared.heads.Heads.{Heads}
 use Rattle.heap_log.specs.declared.chain.Chain.TheVariants.{OfTxn}
-use Rattle.std.specs.HashMap.{get}
 use Rattle.heap_log.specs.declared.link.Link.{Link}
-use Rattle.heap_log.specs.Heads.{RidHeads, key_eq, no_head, block_at, place_at, head_in_block, rid_head_in, txn_head, rid_head, with_rid, AreHeadsAfter}
+use Rattle.heap_log.specs.Heads.{txn_head, rid_head, AreHeadsAfter}
 use Rattle.heap_log.specs.Links.{newest_without, AreLinks, stands_by, on_chain}
 use Rattle.keybytes.specs.Rids.{same_rid}
 use Rattle.heap_log.specs.Standing.{record_at, undone, is_undo_of, is_write_of, is_write_at, last_of, last_at, place_of, stands_of, stands_at, newest_standing}
@@ -188,81 +186,6 @@ standing-some log txn n e =
 -- not more stand than there are records
 pub standing-le : (log : List LogRec) (txn : ℕ) → standing_count log txn ≤ length log
 standing-le log txn = count_below-le (stands_of log txn) (length log) refl
-
--- what a map has once a head is set
-unwrap_or-cond : {X : Type 0} (b : Bool) (x d : X) (o : Option X) → unwrap_or (cond b (Some x) o) d ≡ cond b x (unwrap_or o d)
-unwrap_or-cond true x d o = refl
-unwrap_or-cond false x d o = refl
-
--- RIDs in one block
-block_parts : (a b : Rid) → key_eq (block_at a) (block_at b) ≡ true → (a.page ≡ b.page) × (a.slot / 8 ≡ b.slot / 8)
-block_parts a b e =
-    let parts = and_parts (nat_eq a.page b.page) (nat_eq (a.slot / 8) (b.slot / 8)) e in
-    (eqb-true a.page b.page parts.0, eqb-true (a.slot / 8) (b.slot / 8) parts.1)
-
--- a RID is in one block with itself
-block-refl : (a b : Rid) → same_rid a b ≡ true → key_eq (block_at a) (block_at b) ≡ true
-block-refl a b e =
-    let is = same_rid-true a b e in
-    rw is (and_from (nat_eq b.page b.page) (nat_eq (b.slot / 8) (b.slot / 8)) (eq-eqb b.page b.page refl) (eq-eqb (b.slot / 8) (b.slot / 8) refl))
-
-if-true : {X : Type 0} (b : Bool) (x y : X) → b ≡ true → (if b then x else y) ≡ x
-if-true b x y e = rw e refl
-
-if-false : {X : Type 0} (b : Bool) (x y : X) → b ≡ false → (if b then x else y) ≡ y
-if-false b x y e = rw e refl
-
--- a block with one head set, put among the others
-pub set_rid : (old new : RidHeads) (heads : Heads) (block : List RidHead)
-    → ((p : ℕ) → p < 8 → get_or block p no_head
-    ≡ (if p == place_at heads.rid then heads.at_rid else head_in_block (get key_eq old (block_at heads.rid)) p))
-    → ((key : ℕ × ℕ) → get key_eq new key ≡ cond (key_eq (block_at heads.rid) key) (Some block) (get key_eq old key)) → (rid : Rid)
-    → rid_head_in new rid ≡ with_rid (Some heads) rid (rid_head_in old rid)
-set_rid old new heads block is put rid =
-    let was = rid_head_in old rid in
-    elim (cases_Bool (key_eq (block_at heads.rid) (block_at rid))) [
-      | inl there ↦
-          let parts = block_parts heads.rid rid there in
-          let found = put (block_at rid) ∙ cond-true (key_eq (block_at heads.rid) (block_at rid)) (Some block) (get key_eq old (block_at rid)) there in
-          let now : rid_head_in new rid ≡ get_or block (place_at rid) no_head = ap (λ (o : Option (List RidHead)). head_in_block o (place_at rid)) found in
-          let inside : place_at rid < 8 = omega arith in
-          let head = head_in_block (get key_eq old (block_at heads.rid)) (place_at rid) in
-          elim (cases_eq (place_at rid) (place_at heads.rid)) [
-            | inl e ↦
-                let slot : heads.rid.slot ≡ rid.slot = omega (arith, e, parts.1) in
-                let one : same_rid heads.rid rid ≡ true =
-                and_from (heads.rid.page == rid.page) (heads.rid.slot == rid.slot) (eq-eqb heads.rid.page rid.page parts.0) (eq-eqb heads.rid.slot rid.slot slot) in
-                now ∙ is (place_at rid) inside ∙ if-true (place_at rid == place_at heads.rid) heads.at_rid head (eq-eqb (place_at rid) (place_at heads.rid) e)
-                ∙ sym (if-true (same_rid heads.rid rid) heads.at_rid was one)
-            | inr ne ↦
-                let two : same_rid heads.rid rid ≡ false =
-                false_from_ne_true (same_rid heads.rid rid) (λ e. ne (ap (λ (r : Rid). place_at r) (sym (same_rid-true heads.rid rid e)))) in
-                let other : (place_at rid == place_at heads.rid) ≡ false =
-                false_from_ne_true (place_at rid == place_at heads.rid) (λ e. ne (eqb-true (place_at rid) (place_at heads.rid) e)) in
-                let key : block_at heads.rid ≡ block_at rid = cc (parts.0, parts.1) in
-                now ∙ is (place_at rid) inside ∙ if-false (place_at rid == place_at heads.rid) heads.at_rid head other
-                ∙ ap (λ (k : ℕ × ℕ). head_in_block (get key_eq old k) (place_at rid)) key ∙ sym (if-false (same_rid heads.rid rid) heads.at_rid was two)
-          ]
-      | inr apart ↦
-          let two : same_rid heads.rid rid ≡ false =
-          false_from_ne_true (same_rid heads.rid rid) (λ e. false≢true (sym apart ∙ block-refl heads.rid rid e)) in
-          ap (λ (o : Option (List RidHead)). head_in_block o (place_at rid))
-          (put (block_at rid) ∙ cond-false (key_eq (block_at heads.rid) (block_at rid)) (Some block) (get key_eq old (block_at rid)) apart)
-          ∙ sym (if-false (same_rid heads.rid rid) heads.at_rid was two)
-    ]
-
--- a head set in a block that has what another block, or none, had
-pub set_in_block : (heads : Heads) (place : ℕ) (new was : List RidHead) (old : Option (List RidHead)) → place ≡ place_at heads.rid
-    → ((p : ℕ) → p < 8 → get_or new p no_head ≡ (if p == place then heads.at_rid else get_or was p no_head))
-    → ((p : ℕ) → p < 8 → get_or was p no_head ≡ head_in_block old p)
-    → (p : ℕ) → p < 8 → get_or new p no_head ≡ (if p == place_at heads.rid then heads.at_rid else head_in_block old p)
-set_in_block heads place new was old at is same p lt =
-    is p lt ∙ ap (λ (t : ℕ). if p == t then heads.at_rid else get_or was p no_head) at
-    ∙ ap (λ (h : RidHead). if p == place_at heads.rid then heads.at_rid else h) (same p lt)
-
--- the heads of a block that is not there
-pub none_there : (head : RidHead) (p : ℕ) → head ≡ no_head → p < 8 → get_or (replicate 8 head) p no_head ≡ no_head
-none_there head p is lt = get_or-replicate 8 p head no_head lt ∙ is
 
 -- the record of that number, as it was read
 pub undone-read : (log : List LogRec) (links : List Link) → AreLinks log links → (n : ℕ) (link : Link) → 1 ≤ n → n ≤ length log

@@ -7,4 +7,6 @@ pub mod Last
 pub mod Linked
 pub mod Live
 pub mod Numbers
+pub mod Paged
+pub mod Placed
 pub mod Records

@@ -4,7 +4,7 @@ use Rattle.std.specs.Prelude.{not, IfSome}
 use Rattle.std.proofs.lemmas.Bool.{and_parts}
 use Rattle.keybytes.specs.declared.rid.Rid.{Rid}
 use Rattle.heap_log.specs.declared.record.LogRec.{LogRec}
-use Rattle.heap_log.specs.Standing.{record_at, undone, is_write_of, is_write_at, last_below, last_of, last_at, stands_of, stands_at, newest_standing}
+use Rattle.heap_log.specs.Standing.{record_at, undone, is_write_of, is_write_at, last_below, last_of, last_at, stands_of, stands_at, newest_standing, newest_at}
 use Rattle.heap_log.specs.Standing.{standing_before, rid_of, IsWrite}
 use Rattle.heap_log.proofs.Last.{last_below_some}
 use Rattle.heap_log.proofs.Records.{write_within, some_place-by, some_place-there}
@@ -70,3 +70,7 @@ last_of-writes log txn n (Some m) e = last_of-write log txn n m (sym e)
 pub last_at-writes : (log : List LogRec) (rid : Rid) (n : ℕ) (place : Option ℕ) → place ≡ last_at log rid n → IfSome place (IsWrite log)
 last_at-writes log rid n None e = tt
 last_at-writes log rid n (Some m) e = last_at-write log rid n m (sym e)
+
+pub newest_at-writes : (log : List LogRec) (rid : Rid) (place : Option ℕ) → place ≡ newest_at log rid → IfSome place (IsWrite log)
+newest_at-writes log rid None e = tt
+newest_at-writes log rid (Some n) e = write_at log rid n (stands_at-write log rid (length log + 1) n (sym e))

@@ -1,6 +1,5 @@
 -- What a log keeps of each transaction and each RID.
-use Rattle.std.specs.Prelude.{◌≡◌, ℕ, ◌+◌, ◌/◌, ◌%◌, ◌≤◌, Bool, ◌&&◌, ◌==◌, nat_eq, if◌then◌else◌, List, length, get_or, Option, Some, None, unwrap_or, Vec, vec_len}
-use Rattle.std.specs.Prelude.{vec_capacity}
+use Rattle.std.specs.Prelude.{◌≡◌, ℕ, ◌+◌, ◌≤◌, ◌==◌, nat_eq, if◌then◌else◌, List, length, Option, Some, None, unwrap_or, Vec, vec_len, vec_capacity}
 use Rattle.std.specs.HashMap.{HashMap, get, spare}
 use Rattle.std.specs.declared.alloc.Global.{Global}
 use Rattle.std.specs.declared.hash.FoldHasher.{FoldHasher}
@@ -12,41 +11,17 @@ use Rattle.heap_log.specs.declared.txn_head.TxnHead.{TxnHead}
 use Rattle.heap_log.specs.declared.rid_head.RidHead.{RidHead}
 use Rattle.heap_log.specs.declared.heads.Heads.{Heads}
 use Rattle.heap_log.specs.Links.{AreLinks}
+use Rattle.heap_log.specs.PageHeads.{rid_head_in}
 use Rattle.keybytes.specs.Rids.{same_rid}
 use Rattle.heap_log.specs.Standing.{newest_standing, standing_count, newest_at, last_of, last_at}
 
--- the maps, since antt has no names for the aliases
+-- the map, since antt has no name for the alias
 abbrev pub TxnHeads : Type 0
 TxnHeads = HashMap ℕ TxnHead (BuildHasherDefault FoldHasher)
 
-abbrev pub RidHeads : Type 0
-RidHeads = HashMap (ℕ × ℕ) (List RidHead) (BuildHasherDefault FoldHasher)
-
-abbrev pub key_eq : ℕ × ℕ → ℕ × ℕ → Bool
-key_eq a b = nat_eq a.0 b.0 && nat_eq a.1 b.1
-
--- the head of a RID that no write was at
-abbrev pub no_head : RidHead
-no_head = record { last = None; newest = None }
-
--- eight slots of a page side by side have their heads in one block: which block, and which of them
-abbrev pub block_at : Rid → ℕ × ℕ
-block_at rid = (rid.page, rid.slot / 8)
-
-abbrev pub place_at : Rid → ℕ
-place_at rid = rid.slot % 8
-
--- the head at a place of a block, if there is the block
-abbrev pub head_in_block : Option (List RidHead) → ℕ → RidHead
-head_in_block None place = no_head
-head_in_block (Some block) place = get_or block place no_head
-
--- what a map has of a transaction, of a RID
+-- what it has of a transaction
 abbrev pub txn_head_in : TxnHeads → ℕ → TxnHead
 txn_head_in heads txn = unwrap_or (get nat_eq heads txn) (record { last = None; newest = None; standing = 0 })
-
-abbrev pub rid_head_in : RidHeads → Rid → RidHead
-rid_head_in heads rid = head_in_block (get key_eq heads (block_at rid)) (place_at rid)
 
 -- what the log says of a transaction, of a RID
 abbrev pub txn_head : List LogRec → ℕ → TxnHead
@@ -69,12 +44,11 @@ pub record AreHeadsAfter (old new : List LogRec) (heads : Option Heads) : Type 0
   pub txns : (txn : ℕ) → txn_head new txn ≡ with_txn heads txn (txn_head old txn)
   pub rids : (rid : Rid) → rid_head new rid ≡ with_rid heads rid (rid_head old rid)
 
--- links and heads go with the records, and there is room for that many more of each
-pub record IsKept (entries : Vec LogRec Global) (beside : Vec Link Global) (of_txns : TxnHeads) (at_rids : RidHeads) (room : ℕ) : Type 0 where
+-- links and heads go with the records, and there is room for that many more records, with what is kept of each
+pub record IsKept (entries : Vec LogRec Global) (beside : Vec Link Global) (of_txns : TxnHeads) (at_rids : List (List RidHead)) (room : ℕ) : Type 0 where
   pub links : AreLinks entries.items beside.items
   pub txns : (txn : ℕ) → txn_head_in of_txns txn ≡ txn_head entries.items txn
   pub rids : (rid : Rid) → rid_head_in at_rids rid ≡ rid_head entries.items rid
   pub records_room : vec_len entries + room ≤ vec_capacity entries
   pub links_room : vec_len beside + room ≤ vec_capacity beside
   pub txns_room : room ≤ spare of_txns
-  pub rids_room : room ≤ spare at_rids

@@ -3,4 +3,6 @@ pub mod Growing
 pub mod Heads
 pub mod Links
 pub mod LogValue
+pub mod PageHeads
+pub mod Places
 pub mod Standing

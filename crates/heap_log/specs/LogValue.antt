@@ -2,7 +2,8 @@
 use Rattle.std.specs.Prelude.{ℕ, List}
 use Rattle.heap_log.specs.declared.record.LogRec.{LogRec}
 
--- the records in order, and how many more can be added without taking memory
+-- the records in order, how many more can be added without taking memory, and how many slots of each page have places for writes
 pub record LogValue : Type 0 where
   pub records : List LogRec
   pub room : ℕ
+  pub places : List ℕ

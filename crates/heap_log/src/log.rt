@@ -1,7 +1,8 @@
 ghost use Rattle.std.specs.Prelude.{◌≡◌, ℕ, ◌<◌, ◌≤◌, ◌+◌, ◌-◌, max, ◌++◌, ◌∷◌, [], length, Some, None, true, false, IsSome, IfSome, IsOk, IfErr, OnOk, OnErr};
-ghost use Rattle.heap_log.specs.Growing.{Added, UndoesNameEarlier};
+ghost use Rattle.heap_log.specs.Growing.{Added, UndoesNameEarlier, changed_rid};
 ghost use Rattle.heap_log.specs.Heads.{txn_head, rid_head, AreHeadsAfter};
 ghost use Rattle.heap_log.specs.Links.{newest_before, newest_without, IsLinkOf};
+ghost use Rattle.heap_log.specs.Places.{HasPlace, HasPlaceFor, KeepsPlaces};
 ghost use Rattle.heap_log.specs.Standing.{record_at, undone, place_of, txn_of, is_number, is_write_of, is_write_at, last_of, last_at, stands_of, stands_at};
 ghost use Rattle.heap_log.specs.Standing.{newest_standing, standing_before, standing_count, IsWrite, NamesEarlier};
 
@@ -9,20 +10,22 @@ use crate::LogRec;
 use crate::chain::Chain;
 use crate::heads::Heads;
 use crate::link::{Link, mark_undone};
-use crate::rid_head::{RidHead, RidHeads, rid_head, set_rid_head};
+use crate::page_heads::{PageHeads, set_rid_head};
+use crate::rid_head::RidHead;
 use crate::txn_head::{TxnHead, TxnHeads, set_txn_head, txn_head};
 use keybytes::{Fault, Rid};
 use std::alloc::Global;
 use std::collections::HashMap;
 use std::marker::Model;
 
-/// The log. Contracts see its records in order, and its room: how many more it can take without memory.
+/// The log. Contracts see its records in order; its room, how many more it can take without memory; and its places, for
+/// how many slots of each page it can take writes.
 #[derive(Drop)]
 pub struct Log {
     records: Vec<LogRec>,
     links: Vec<Link>,
     txns: TxnHeads,
-    rids: RidHeads,
+    rids: PageHeads,
     room: usize,
 }
 
@@ -32,8 +35,9 @@ impl Model for Log {
     ghost Value = { LogValue };
 
     ghost use Rattle.heap_log.specs.Heads.{IsKept};
+    ghost use Rattle.heap_log.specs.PageHeads.{places_of};
 
-    ghost view = { λ log. record { records = log.records.items; room = log.room } };
+    ghost view = { λ log. record { records = log.records.items; room = log.room; places = places_of log.rids } };
 
     ghost invariant = { λ log. IsKept log.records log.links log.txns log.rids log.room };
 }
@@ -52,12 +56,13 @@ impl Log {
     pub fn new(alloc: Global) -> Log
         ensures records { result.records ≡ [] }
         ensures room { result.room ≡ 0 }
+        ensures places { result.places ≡ [] }
     {
         Log {
             records: Vec::new(alloc),
             links: Vec::new(alloc),
             txns: HashMap::new(alloc),
-            rids: HashMap::new(alloc),
+            rids: PageHeads::new(alloc),
             room: 0,
         }
     }
@@ -68,6 +73,7 @@ impl Log {
         ensures records { self.new.records ≡ self.old.records }
         ensures room { self.old.room ≤ self.new.room }
         ensures exact { OnOk result (self.new.room ≡ max self.old.room additional) }
+        ensures places { self.new.places ≡ self.old.places }
         ensures err { OnErr result (self.new ≡ self.old) }
         ensures memory { IfErr result (λ fault. fault ≡ Fault.Memory) }
         ensures succeeds { additional ≤ self.old.room → IsOk result }
@@ -78,8 +84,26 @@ impl Log {
         self.records.reserve(additional)?;
         self.links.reserve(additional)?;
         self.txns.reserve(additional)?;
-        self.rids.reserve(additional)?;
         self.room = additional;
+        Ok(())
+    }
+
+    /// Makes room for one more record, and a place for writes at the RID. A RID that was written has one already.
+    pub fn reserve_at(&mut self, rid: Rid) -> Result<(), Fault>
+        ensures ok { OnOk result (HasPlace rid self.new.places) }
+        ensures kept { KeepsPlaces self.old.places self.new.places }
+        ensures room { OnOk result (self.new.room ≡ max self.old.room 1) }
+        ensures records { self.new.records ≡ self.old.records }
+        ensures err { OnErr result (self.new ≡ self.old) }
+        ensures memory { IfErr result (λ fault. fault ≡ Fault.Memory) }
+        ensures succeeds { 0 < self.old.room → HasPlace rid self.old.places → IsOk result }
+    {
+        let room = self.room.max(1);
+        self.records.reserve(room)?;
+        self.links.reserve(room)?;
+        self.txns.reserve(room)?;
+        self.rids.reserve_at(rid)?;
+        self.room = room;
         Ok(())
     }
 
@@ -167,8 +191,10 @@ impl Log {
     pub fn add(&mut self, added: LogRec)
         requires room { 0 < self.old.room }
         requires earlier { NamesEarlier (length self.old.records) added }
+        requires place { HasPlaceFor added self.old.places }
         ensures added { Added self.old.records added self.new.records }
         ensures room { self.new.room + 1 ≡ self.old.room }
+        ensures places { self.new.places ≡ self.old.places }
     {
         let link = self.link_of(&added);
         let heads = self.heads_after(&added);
@@ -189,7 +215,7 @@ impl Log {
     fn rid_head(&self, rid: Rid) -> RidHead
         ensures { result ≡ rid_head self.now.records rid }
     {
-        rid_head(&self.rids, rid)
+        self.rids.head(rid)
     }
 
     /// The newest standing write before that write, on the chain. Links lead past all but those undone since.
@@ -231,7 +257,8 @@ impl Log {
     /// The heads that the record changes.
     fn heads_after(&self, added: &LogRec) -> Option<Heads>
         requires { NamesEarlier (length self.now.records) added.now }
-        ensures { AreHeadsAfter self.now.records (self.now.records ++ added.now ∷ []) result }
+        ensures heads { AreHeadsAfter self.now.records (self.now.records ++ added.now ∷ []) result }
+        ensures rid { IfSome result (λ heads. changed_rid self.now.records added.now ≡ Some heads.rid) }
     {
         let number = self.records.len() + 1;
         match added {
@@ -271,8 +298,9 @@ impl Log {
     fn heads_without(&self, number: usize) -> Option<Heads>
         requires low { 1 ≤ number }
         requires high { number ≤ length self.now.records }
-        ensures { (txn : ℕ) → AreHeadsAfter self.now.records
+        ensures heads { (txn : ℕ) → AreHeadsAfter self.now.records
             (self.now.records ++ LogRec.Undo txn number ∷ []) result }
+        ensures rid { IfSome result (λ heads. place_of (record_at self.now.records number) ≡ Some heads.rid) }
     {
         if self.links[number - 1].undone {
             return None;

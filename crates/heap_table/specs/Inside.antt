@@ -19,6 +19,7 @@ heap_value h = record {
     visits = h.visits;
   };
   room = h.log.room;
+  places = h.log.places;
 }
 
 -- the slots that the bytes tell

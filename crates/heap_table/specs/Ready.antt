@@ -4,6 +4,7 @@ use Rattle.keybytes.specs.Rows.{IsRow, row_bytes}
 use Rattle.keybytes.specs.declared.cell.Cell.{Cell}
 use Rattle.keybytes.specs.declared.rid.Rid.{Rid}
 use Rattle.heap_log.specs.declared.record.LogRec.{LogRec}
+use Rattle.heap_log.specs.Places.{HasPlace}
 use Rattle.heap_log.specs.Standing.{record_at, rid_of, live_at, row_at, newest_standing, standing_before, standing_count}
 use Rattle.slotted_page.specs.Slot.{Slot, reserve_of, IsRow as HasRow, IsHeld, IsTaken, IsRowSize}
 use Rattle.slotted_page.specs.Page.{room_for, fits_at}
@@ -39,6 +40,7 @@ IsLawful s txn rid (Some n) old new =
 -- the table will take the change
 pub record IsReady (h : HeapValue) (ready : Ready) : Type 0 where
   pub memory : 0 < h.room
+  pub place : HasPlace ready.rid h.places
   pub old : ready.old ≡ live_at h.state.log ready.rid
   pub new : IfSome ready.new IsSized
   pub bytes : ready.bytes.items ≡ bytes_of_row ready.new

@@ -24,7 +24,8 @@ use std::alloc::Global;
 use std::marker::Model;
 
 /// A table of rows in pages. Contracts see its state, which is its log and its open transactions, and the room for
-/// changes that it has memory for; the rows are those that the log leaves standing. A refused call changes nothing.
+/// changes and the places of RIDs that it has memory for; the rows are those that the log leaves standing. A refused
+/// call changes nothing.
 pub struct Heap {
     schema: Schema,
     slot_limit: u8,

@@ -1,5 +1,6 @@
 //! The log's answers, and copies of its records.
-ghost use Rattle.std.specs.Prelude.{◌≡◌, ◌≤◌, None, OnOk};
+ghost use Rattle.std.specs.Prelude.{◌≡◌, ◌<◌, ◌≤◌, None, OnOk};
+ghost use Rattle.heap_log.specs.Places.{HasPlace};
 
 mod cases;
 
@@ -80,8 +81,23 @@ fn reserve_again(log: &mut Log, additional: usize) -> Result<(), Fault>
     Ok(())
 }
 
+/// Makes room and a place for a write at the RID, once more where memory was refused, which has changed nothing.
+fn reserve_at_again(log: &mut Log, rid: Rid) -> Result<(), Fault>
+    ensures room { OnOk result (0 < log.new.room) }
+    ensures place { OnOk result (HasPlace rid log.new.places) }
+{
+    let last = log.last(rid);
+    if log.reserve_at(rid).is_err() {
+        if log.last(rid) != last {
+            return Err(Fault::BadCount);
+        }
+        log.reserve_at(rid)?;
+    }
+    Ok(())
+}
+
 fn delete(log: &mut Log, txn: u64, rid: Rid) -> Result<(), Fault> {
-    reserve_again(log, 1)?;
+    reserve_at_again(log, rid)?;
     log.add(LogRec::Write {
         txn,
         rid,

@@ -1,14 +1,15 @@
 //! The steps of a build that are done under the lock.
-ghost use Rattle.std.specs.Prelude.{◌≡◌, ◌≢◌, ℕ, ◌<◌, List, length, map, take, drop, Some, None, IfOk, IfErr, IfSome, OnErr, OnOk, true, false, All};
+ghost use Rattle.std.specs.Prelude.{◌≡◌, ◌≢◌, ℕ, ◌<◌, ◌≤◌, ◌+◌, ◌*◌, List, length, map, take, drop, Some, None, IfOk, IfErr, IfSome, OnErr, OnOk, true, false, All};
 ghost use Rattle.keybytes.specs.Keys.{KeySpecValue};
 ghost use Rattle.keybytes.specs.declared.fault.Fault.{Fault};
 ghost use Rattle.building.specs.IndexLoads.{CanLoadAll};
 ghost use Rattle.building.specs.Lent.{CanLend};
 ghost use Rattle.ready_indexes.specs.Following.{indexes_of};
+ghost use Rattle.crew.specs.Credits.{KeepsCredit, indexes_of_build, waiting_in};
 ghost use Rattle.crew.specs.Reports.{EndsFor, IsOther, IsReport, lists_in};
 ghost use Rattle.crew.specs.Places.{GoesOnWith, HasPairsLeft, StillScans, stakes_beside};
 
-use crate::locked::{Locked, copied};
+use crate::locked::{Credit, Locked, copied};
 use crate::{Opened, Progress, Receipt, Report};
 use builder_core::{Building, Plan, ReadyIndexes};
 use heap_table::PageImage;
@@ -30,6 +31,7 @@ impl<T: Opened> Locked<T> {
         ensures not_busy { IfErr result (λ fault. (count : ℕ) → fault ≢ Fault.Busy count) }
         ensures log { self.new.state.heap.log ≡ self.old.state.heap.log }
     {
+        self.credit = None;
         let number = self.live.start(plan, building)?;
         self.progress = Progress::started(self.live.heap().pages());
         Ok(number)
@@ -45,6 +47,7 @@ impl<T: Opened> Locked<T> {
         ensures other { IfErr result (λ back. IsOther back.1) }
         ensures log { self.new.state.heap.log ≡ self.old.state.heap.log }
     {
+        self.credit = None;
         let page = self.live.scan_step(range, worker, image)?;
         self.progress.note_page();
         Ok(page)
@@ -58,6 +61,7 @@ impl<T: Opened> Locked<T> {
         ensures other { IfErr result (λ fault. IfSome building.old.work (λ w. w.spoiled ≡ None → IsOther fault)) }
         ensures log { self.new.state.heap.log ≡ self.old.state.heap.log }
     {
+        self.credit = None;
         // What is kept of the indexes is known once it is told.
         building.laws();
         self.live.end_scan(building)?;
@@ -65,14 +69,51 @@ impl<T: Opened> Locked<T> {
         Ok(())
     }
 
-    /// Moves the next entries of an index's side-file into its ring.
-    pub(crate) fn feed(&mut self, index: usize, most: usize) -> Result<usize, Fault>
+    /// How many entries wait for the build of so many indexes that knows the credit so; [`Fault::NoBuild`] where that isn't the build that has it.
+    pub(crate) fn left_beside(&self, indexes: usize, known: Credit) -> Result<usize, Fault>
+        ensures left { IfOk result (λ left. left ≡ waiting_in self.now.state) }
+        ensures paced { IfOk result (λ left. 512 + 2 * indexes ≤ left → 2 * left + known.taken ≤ 1024 + 2 * known.first) }
+        ensures same { OnOk result (self.now.credit ≡ Some known) }
+        ensures other { IfErr result (λ fault. fault ≡ Fault.NoBuild) }
+    {
+        let Some(credit) = self.credit else {
+            return Err(Fault::NoBuild);
+        };
+        if credit.first != known.first || credit.taken != known.taken || self.indexes() != indexes {
+            return Err(Fault::NoBuild);
+        }
+        self.entries_left().ok_or(Fault::NoBuild)
+    }
+
+    /// Moves the next entries of each of so many side-files into its ring, at most as many as that of each, and answers how many those are together.
+    pub(crate) fn feed_all(&mut self, indexes: usize, most: usize) -> Result<usize, Fault>
+        ensures other { IfErr result IsOther }
+        ensures log { self.new.state.heap.log ≡ self.old.state.heap.log }
+    {
+        let before = self.entries_left();
+        let credit = self.credit.take();
+        for index in 0..indexes {
+            self.feed(index, most)?;
+        }
+        let (Some(before), Some(after)) = (before, self.entries_left()) else {
+            return Err(Fault::NoBuild);
+        };
+        let fed = before.saturating_sub(after);
+        self.credit = taken_from(credit, before, after);
+        Ok(fed)
+    }
+
+    /// Moves the next entries of an index's side-file into its ring, while there is no credit.
+    fn feed(&mut self, index: usize, most: usize) -> Result<(), Fault>
+        requires { self.old.credit ≡ None }
+        ensures credit { self.new.credit ≡ None }
+        ensures indexes { indexes_of_build self.new.state.build ≡ indexes_of_build self.old.state.build }
         ensures other { IfErr result IsOther }
         ensures log { self.new.state.heap.log ≡ self.old.state.heap.log }
     {
         let fed = self.live.feed(index, most)?;
         self.progress.note_fed(fed);
-        Ok(fed)
+        Ok(())
     }
 
     /// Gives the build up, if one runs.
@@ -80,6 +121,7 @@ impl<T: Opened> Locked<T> {
         ensures none { self.new.state.build ≡ None }
         ensures log { self.new.state.heap.log ≡ self.old.state.heap.log }
     {
+        self.credit = None;
         self.live.give_up();
         self.progress = Progress::idle();
     }
@@ -101,6 +143,7 @@ impl<T: Opened> Locked<T> {
             → (count : ℕ) (specs : List KeySpecValue) → GoesOnWith count specs building.old → GoesOnWith count specs building.new) }
         ensures ends { IfErr result (λ fault. IfSome building.old.work (λ w. w.spoiled ≡ None → EndsFor w.specs fault)) }
     {
+        self.credit = None;
         let first = self.live.ready().len();
         match self.live.switch_in(building) {
             Ok(switched) => {
@@ -156,4 +199,11 @@ fn copies_from(alloc: Global, ready: &ReadyIndexes, first: usize) -> Result<Vec<
         pairs.push(copied(alloc, index.tree())?)?;
     }
     Ok(pairs)
+}
+
+/// The credit once fewer entries wait; none where more do, or where those taken can't be counted.
+fn taken_from(credit: Option<Credit>, before: usize, after: usize) -> Option<Credit>
+    ensures { (indexes : ℕ) → IfSome credit (KeepsCredit before indexes) → IfSome result (KeepsCredit after indexes) }
+{
+    credit?.after_taking(before.checked_sub(after)?)
 }

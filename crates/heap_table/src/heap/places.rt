@@ -1,5 +1,6 @@
 //! Where rows go, and the memory for one more change.
 ghost use Rattle.std.specs.Prelude.{◌≡◌, ◌<◌, ◌≤◌, Some, None, IsSome, IfOk, IfErr, OnOk, OnErr, MatchResult};
+ghost use Rattle.heap_log.specs.Places.{HasPlace};
 ghost use Rattle.heap_log.specs.Standing.{live_at};
 ghost use Rattle.slotted_page.specs.Slot.{IsRowSize};
 ghost use Rattle.heap_table.specs.HeapState.{growth_refusal, insert_place, place_on, place_refusal};
@@ -51,15 +52,16 @@ impl Heap {
         Ok(())
     }
 
-    /// Makes room for one more change.
-    pub(super) fn reserve(&mut self) -> Result<(), Fault>
+    /// Makes room for one more change, at that RID.
+    pub(super) fn reserve(&mut self, rid: Rid) -> Result<(), Fault>
         ensures same { OnOk result (self.new.state ≡ self.old.state) }
         ensures ready { OnOk result (0 < self.new.room) }
+        ensures place { OnOk result (HasPlace rid self.new.places) }
         ensures err { OnErr result (self.new ≡ self.old) }
         ensures memory { IfErr result (λ fault. fault ≡ Fault.Memory) }
     {
         self.pages.reserve()?;
-        self.log.reserve(1)?;
+        self.log.reserve_at(rid)?;
         Ok(())
     }
 }

@@ -90,7 +90,7 @@ impl Heap {
         ensures memory { IfErr result (λ fault. fault ≡ Fault.Memory) }
     {
         let bytes = row.to_bytes(&self.schema)?;
-        self.reserve()?;
+        self.reserve(rid)?;
         Ok(Ready {
             rid,
             old: None,
@@ -127,7 +127,7 @@ impl Heap {
     {
         let bytes = row.to_bytes(&self.schema)?;
         let old = self.read(rid)?;
-        self.reserve()?;
+        self.reserve(rid)?;
         Ok(Ready {
             rid,
             old: Some(old),
@@ -151,7 +151,7 @@ impl Heap {
         self.check_txn(txn)?;
         self.check_hold(txn, rid)?;
         let old = self.read(rid)?;
-        self.reserve()?;
+        self.reserve(rid)?;
         Ok(Ready {
             rid,
             old: Some(old),

@@ -38,7 +38,7 @@ impl Heap {
         let (rid, new) = self.row_before(number)?;
         let bytes = self.bytes_of(&new)?;
         let old = self.row_at(rid)?;
-        self.reserve()?;
+        self.reserve(rid)?;
         Ok(Some(Ready {
             rid,
             old,

@@ -8,7 +8,9 @@ const FIRST: Rid = Rid { page: 0, slot: 0 };
 
 const SECOND: Rid = Rid { page: 0, slot: 1 };
 
-pub static CASES: [Case; 3] = [
+const FAR: Rid = Rid { page: 3, slot: 9 };
+
+pub static CASES: [Case; 4] = [
     Case {
         name: "a short log",
         layer: Layer::Log(&[
@@ -39,6 +41,23 @@ pub static CASES: [Case; 3] = [
             Step::Reserve(40),
             Step::Delete(1, FIRST),
             Step::Before(2, Some((Some(1), Some(1)))),
+        ]),
+        told: DONE,
+    },
+    Case {
+        name: "a write past pages and slots that have none",
+        layer: Layer::Log(&[
+            Step::Delete(1, SECOND),
+            Step::Delete(2, FAR),
+            Step::Delete(2, FIRST),
+            Step::Undo(2, 2),
+            Step::At(FAR, Some(2)),
+            Step::At(SECOND, Some(1)),
+            Step::At(FIRST, Some(3)),
+            Step::At(Rid { page: 3, slot: 8 }, None),
+            Step::At(Rid { page: 2, slot: 9 }, None),
+            Step::At(Rid { page: 4, slot: 0 }, None),
+            Step::Of(2, (Some(3), Some(3), 1)),
         ]),
         told: DONE,
     },

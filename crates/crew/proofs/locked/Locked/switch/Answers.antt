@@ -29,4 +29,4 @@ invariant_of-self g c =
     let made =
     switched_more g.T.Opened.opening c.self.inside.live c.switch_in.new.self c.args.building.now c.switch_in.new.building
     (c.in-Ok.switched.number, c.in-Ok.switched.verdicts) c.in-Ok.ensures.switched c.self.invariant.2 in
-    (search rules, (made.since, sym made.goes_on), made)
+    (search rules, (made.since, sym made.goes_on), made, tt)

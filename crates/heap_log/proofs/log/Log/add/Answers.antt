@@ -1,12 +1,14 @@
-use Rattle.std.proofs.Common.{◌≡◌, ◌∙◌, refl, sym, ap, arith, List, [], ◌∷◌, ◌++◌, length}
+use Rattle.std.proofs.Common.{◌≡◌, ◌∙◌, refl, sym, ap, arith, subst, List, [], ◌∷◌, ◌++◌, length}
 use Rattle.heap_log.specs.LogValue.{LogValue}
 use Rattle.heap_log.specs.declared.record.LogRec.{LogRec}
 use Rattle.heap_log.specs.Growing.{Added}
 use Rattle.heap_log.specs.Heads.{AreHeadsAfter, with_txn, with_rid}
 use Rattle.heap_log.specs.Links.{IsLinkOf}
+use Rattle.heap_log.specs.Places.{HasPlaceFor}
 use Rattle.heap_log.specs.Standing.{NamesEarlier}
 use Rattle.heap_log.proofs.Growing.{names_more}
 use Rattle.heap_log.proofs.Linked.{links_grow}
+use Rattle.heap_log.proofs.Placed.{change_numbered, change_placed}
 use Rattle.heap_log.proofs.log.Log.add.Goals as goal
 
 -- what one record more makes of the records, it makes of the log that contracts see
@@ -17,13 +19,24 @@ shown log seen new added same is adds = rw (← same, is) adds
 earlier : (log seen : List LogRec) (added : LogRec) → log ≡ seen → NamesEarlier (length seen) added → NamesEarlier (length log) added
 earlier log seen added same names = rw same names
 
+pub set_rid_head-requires-clause-place : goal.set_rid_head-requires-clause-place
+set_rid_head-requires-clause-place c =
+    let same = ap (λ (v : LogValue). v.records) c.self.view_is in
+    let places = ap (λ (v : LogValue). v.places) c.self.view_is in
+    change_placed c.self.inside.records.items c.self.inside.rids c.args.added c.heads_after-heads.result c.self.invariant.rids
+    (subst (HasPlaceFor c.args.added) (sym places) c.requires.place) (rw same c.heads_after-heads.ensures.rid)
+
+pub set_rid_head-requires-clause-numbered : goal.set_rid_head-requires-clause-numbered
+set_rid_head-requires-clause-numbered c =
+    change_numbered c.args.self.now.records (c.args.self.now.records ++ c.args.added ∷ []) c.heads_after-heads.result c.heads_after-heads.ensures.heads
+
 pub invariant_of-self : goal.invariant_of-self
 invariant_of-self c =
     let log : List LogRec = c.self.inside.records.items in
     let same : log ≡ c.args.self.now.records = ap (λ (v : LogValue). v.records) c.self.view_is in
     let link : IsLinkOf log c.args.added c.link_of-link.result = rw same c.link_of-link.ensures in
     let names = earlier log _ c.args.added same c.requires.earlier in
-    let heads : AreHeadsAfter log (log ++ c.args.added ∷ []) c.heads_after-heads.result = rw same c.heads_after-heads.ensures in
+    let heads : AreHeadsAfter log (log ++ c.args.added ∷ []) c.heads_after-heads.result = rw same c.heads_after-heads.ensures.heads in
     record {
       links = rw (c.push_reserved.ensures.items, c.push_reserved-2.ensures.items)
           (links_grow _ _ _ _ _ c.self.invariant.links c.mark_undone.ensures.marked names link);
@@ -34,7 +47,6 @@ invariant_of-self c =
       records_room = omega arith;
       links_room = omega arith;
       txns_room = omega arith;
-      rids_room = omega arith;
     }
 
 pub returns-clause-added : goal.returns-clause-added

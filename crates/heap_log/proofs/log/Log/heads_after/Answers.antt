@@ -5,8 +5,8 @@ use Rattle.heap_log.proofs.Headed.{heads-plain, heads-write}
 use Rattle.heap_log.proofs.Growing.{undone-past}
 use Rattle.heap_log.proofs.log.Log.heads_after.Goals as goal
 
-pub returns-in-Write : goal.returns-in-Write
-returns-in-Write c =
+pub returns-in-Write-clause-heads : goal.returns-in-Write-clause-heads
+returns-in-Write-clause-heads c =
     let view = ap (λ (v : LogValue). v.records) c.self.view_is in
     let h : AreLinks c.args.self.now.records c.self.inside.links.items = rw view at c.self.invariant.links in
     let number : c.len-number.result + 1 ≡ length c.args.self.now.records + 1 = omega (arith, ap length view, c.self.inside.records.ok) in
@@ -15,14 +15,14 @@ returns-in-Write c =
     (rw number at c.heads_with.ensures.last) (rw number at c.heads_with.ensures.newest) c.heads_with.ensures.standing
     (rw number at c.heads_with.ensures.at_rid))
 
-pub returns-in-Commit : goal.returns-in-Commit
-returns-in-Commit c =
+pub returns-in-Commit-clause-heads : goal.returns-in-Commit-clause-heads
+returns-in-Commit-clause-heads c =
     let h : AreLinks c.args.self.now.records c.self.inside.links.items = rw (ap (λ (v : LogValue). v.records) c.self.view_is) at c.self.invariant.links in
     rw c.in-Commit.is (heads-plain c.args.self.now.records _ (undone-past _ h.earlier (length c.args.self.now.records + 1) (omega arith)) tt (λ k. refl)
     (λ txn. refl) (λ rid. refl))
 
-pub returns-in-Switch : goal.returns-in-Switch
-returns-in-Switch c =
+pub returns-in-Switch-clause-heads : goal.returns-in-Switch-clause-heads
+returns-in-Switch-clause-heads c =
     let h : AreLinks c.args.self.now.records c.self.inside.links.items = rw (ap (λ (v : LogValue). v.records) c.self.view_is) at c.self.invariant.links in
     rw c.in-Switch.is (heads-plain c.args.self.now.records _ (undone-past _ h.earlier (length c.args.self.now.records + 1) (omega arith)) tt (λ k. refl)
     (λ txn. refl) (λ rid. refl))

@@ -16,6 +16,7 @@ returns-clause-ready c =
     let same = c.in_ok-reserve.ensures.same in
     record {
       memory = c.in_ok-reserve.ensures.ready;
+      place = c.in_ok-reserve.ensures.place;
       old = rw same (sym (slot_free c.args.self.now.state.log c.args.rid goes.empty).0);
       new = (c.in_ok-bytes.ensures.is_row, sized);
       bytes = c.in_ok-bytes.ensures.ok;

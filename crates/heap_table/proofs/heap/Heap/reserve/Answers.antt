@@ -3,20 +3,20 @@ use Rattle.heap_table.proofs.KeptChanges.{kept_same}
 use Rattle.heap_table.proofs.Sounds.{sound_same}
 use Rattle.heap_table.proofs.heap.Heap.reserve.Goals as goal
 
-pub invariant_of-self-in_err-reserve-2 : goal.invariant_of-self-in_err-reserve-2
-invariant_of-self-in_err-reserve-2 c =
+pub invariant_of-self-in_err-reserve_at : goal.invariant_of-self-in_err-reserve_at
+invariant_of-self-in_err-reserve_at c =
     record {
-      kept = kept_same _ _ c.self.inside.pages c.reserve.new.self c.in_err-reserve-2.ensures.records refl refl refl c.in_ok-reserve.ensures.pages
+      kept = kept_same _ _ c.self.inside.pages c.reserve.new.self c.in_err-reserve_at.ensures.records refl refl refl c.in_ok-reserve.ensures.pages
           c.in_ok-reserve.ensures.limit
-          (sound_same _ _ c.in_err-reserve-2.ensures.records refl refl c.self.invariant.kept.sound) c.self.invariant.kept;
-      room = let same = c.in_err-reserve-2.ensures.err in rw same (omega (arith, c.in_ok-reserve.ensures.spare, c.self.invariant.room));
+          (sound_same _ _ c.in_err-reserve_at.ensures.records refl refl c.self.invariant.kept.sound) c.self.invariant.kept;
+      room = let same = c.in_err-reserve_at.ensures.err in rw same (omega (arith, c.in_ok-reserve.ensures.spare, c.self.invariant.room));
     }
 
 pub invariant_of-self-2 : goal.invariant_of-self-2
 invariant_of-self-2 c =
     record {
-      kept = kept_same _ _ c.self.inside.pages c.reserve.new.self c.in_ok-reserve-2.ensures.records refl refl refl c.in_ok-reserve.ensures.pages
+      kept = kept_same _ _ c.self.inside.pages c.reserve.new.self c.in_ok-reserve_at.ensures.records refl refl refl c.in_ok-reserve.ensures.pages
           c.in_ok-reserve.ensures.limit
-          (sound_same _ _ c.in_ok-reserve-2.ensures.records refl refl c.self.invariant.kept.sound) c.self.invariant.kept;
-      room = omega (arith, c.in_ok-reserve.ensures.ok, c.in_ok-reserve.ensures.spare, c.in_ok-reserve-2.ensures.exact, c.self.invariant.room);
+          (sound_same _ _ c.in_ok-reserve_at.ensures.records refl refl c.self.invariant.kept.sound) c.self.invariant.kept;
+      room = omega (arith, c.in_ok-reserve.ensures.ok, c.in_ok-reserve.ensures.spare, c.in_ok-reserve_at.ensures.room, c.self.invariant.room);
     }

@@ -19,6 +19,9 @@ write_slot-requires-clause-room c =
     let memory : 0 < c.self.inside.pages.spare = omega (arith, c.requires.ready.memory, kept.room) in
     can_write s c.self.inside.pages ready.txn ready.rid ready.old ready.new kept.kept memory c.requires.ready.old c.requires.ready.new lawful
 
+pub add-requires-clause-place : goal.add-requires-clause-place
+add-requires-clause-place c = (ready_inside _ _ _ c.self.view_is c.requires.ready).place
+
 pub invariant_of-self : goal.invariant_of-self
 invariant_of-self c =
     let ready = c.args.ready in

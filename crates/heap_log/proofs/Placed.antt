@@ -1,0 +1,72 @@
+-- The heads that a record changes have places, and numbers that can be kept.
+use Rattle.std.proofs.Common.{◌≡◌, ℕ, ◌+◌, ◌<◌, true, false, List, length, Option, Some, None, refl, sym, ap, ◌∙◌, arith, subst}
+use Rattle.std.specs.Prelude.{IfSome}
+use Rattle.std.proofs.lemmas.Bool.{cond-true, false≢true}
+use Rattle.std.proofs.lemmas.Option.{same_Some}
+use Rattle.keybytes.specs.Rids.{same_rid}
+use Rattle.keybytes.specs.declared.rid.Rid.{Rid}
+use Rattle.keybytes.proofs.SameRids.{same_rid-refl}
+use Rattle.heap_log.specs.declared.record.LogRec.{LogRec}
+use Rattle.heap_log.specs.declared.record.LogRec.TheVariants.{Write, Undo, Commit, Switch}
+use Rattle.heap_log.specs.declared.rid_head.RidHead.{RidHead}
+use Rattle.heap_log.specs.declared.heads.Heads.{Heads}
+use Rattle.heap_log.specs.Growing.{changed_rid}
+use Rattle.heap_log.specs.Heads.{rid_head, AreHeadsAfter}
+use Rattle.heap_log.specs.PageHeads.{no_head, rid_head_in, places_of, IsNumbered}
+use Rattle.heap_log.specs.Places.{HasPlace, HasPlaceFor}
+use Rattle.heap_log.specs.Standing.{record_at, is_write_at, last_at, newest_at, place_of, IsWrite}
+use Rattle.heap_log.proofs.Last.{last_below_none}
+use Rattle.heap_log.proofs.Numbers.{last_at-writes, newest_at-writes}
+use Rattle.heap_log.proofs.Paged.{place_of_head}
+use Rattle.heap_log.proofs.Records.{write_within}
+
+-- the numbers of a log's records are not 0
+number_some : (log : List LogRec) (place : Option ℕ) → IfSome place (IsWrite log) → IfSome place (λ n. 0 < n)
+number_some log None is = tt
+number_some log (Some n) is = omega (arith, is.low)
+
+head_numbered : (log : List LogRec) (rid : Rid) → IsNumbered (rid_head log rid)
+head_numbered log rid = record {
+  last = number_some log (last_at log rid (length log + 1)) (last_at-writes log rid (length log + 1) (last_at log rid (length log + 1)) refl);
+  newest = number_some log (newest_at log rid) (newest_at-writes log rid (newest_at log rid) refl);
+}
+
+-- so a changed head can be kept
+pub change_numbered : (old new : List LogRec) (change : Option Heads) → AreHeadsAfter old new change → IfSome change (λ heads. IsNumbered heads.at_rid)
+change_numbered old new None after = tt
+change_numbered old new (Some heads) after =
+    let is : rid_head new heads.rid ≡ heads.at_rid =
+    after.rids heads.rid ∙ cond-true (same_rid heads.rid heads.rid) heads.at_rid (rid_head old heads.rid) (same_rid-refl heads.rid) in
+    subst IsNumbered is (head_numbered new heads.rid)
+
+-- a write is at its RID
+write_there : (rid : Rid) (rec : Option LogRec) → place_of rec ≡ Some rid → is_write_at rid rec ≡ true
+write_there rid None e = absurd (cc)
+write_there rid (Some (Write txn r row)) e = ap (λ p. same_rid p rid) (same_Some r rid e) ∙ same_rid-refl rid
+write_there rid (Some (Undo txn n)) e = absurd (cc)
+write_there rid (Some (Commit txn)) e = absurd (cc)
+write_there rid (Some (Switch verdicts)) e = absurd (cc)
+
+-- a RID that was written has a place
+pub written_placed : (log : List LogRec) (pages : List (List RidHead)) (rid : Rid) (n : ℕ) → rid_head_in pages rid ≡ rid_head log rid
+    → place_of (record_at log n) ≡ Some rid → HasPlace rid (places_of pages)
+written_placed log pages rid n same is =
+    let there : is_write_at rid (record_at log n) ≡ true = write_there rid (record_at log n) is in
+    let within : (0 < n) × (n < length log + 1) = write_within log n (is_write_at rid) refl there in
+    place_of_head pages rid (λ none.
+    let last : last_at log rid (length log + 1) ≡ None = ap (λ (head : RidHead). head.last) (sym same ∙ none) in
+    false≢true (sym (last_below_none (λ k. is_write_at rid (record_at log k)) (length log + 1) last n within.1) ∙ there))
+
+placed : (log : List LogRec) (pages : List (List RidHead)) (added : LogRec) (rid : Rid) → rid_head_in pages rid ≡ rid_head log rid
+    → HasPlaceFor added (places_of pages) → changed_rid log added ≡ Some rid → HasPlace rid (places_of pages)
+placed log pages (Write txn r row) rid same place is = subst (λ (p : Rid). HasPlace p (places_of pages)) (same_Some r rid is) place
+placed log pages (Undo txn n) rid same place is = written_placed log pages rid n same is
+placed log pages (Commit txn) rid same place is = absurd (cc)
+placed log pages (Switch verdicts) rid same place is = absurd (cc)
+
+-- so has the RID that a record changes
+pub change_placed : (log : List LogRec) (pages : List (List RidHead)) (added : LogRec) (change : Option Heads)
+    → ((rid : Rid) → rid_head_in pages rid ≡ rid_head log rid) → HasPlaceFor added (places_of pages)
+    → IfSome change (λ heads. changed_rid log added ≡ Some heads.rid) → IfSome change (λ heads. HasPlace heads.rid (places_of pages))
+change_placed log pages added None same place is = tt
+change_placed log pages added (Some heads) same place is = placed log pages added heads.rid (same heads.rid) place is
