@@ -2,6 +2,7 @@ pub mod Abandoned
 pub mod Answered
 pub mod Copies
 pub mod Distinct
+pub mod EntriesAdded
 pub mod EntrySteps
 pub mod Making
 pub mod NextPages

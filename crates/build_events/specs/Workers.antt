@@ -1,7 +1,7 @@
 -- What was put to the workers of a build, and what they have done with it; and how many entries of each index's side-file there are, were
 -- fed and were applied.
-use Rattle.std.specs.Prelude.{ℕ, ◌+◌, ◌-◌, ◌%◌, Bool, false, ◌&&◌, not, ◌==◌, List, [], ◌∷◌, filter, length, take, drop, flat_map, get_or, Option, Some, None}
-use Rattle.std.specs.List.{range_with_len, position, list_all}
+use Rattle.std.specs.Prelude.{ℕ, zero, suc, ◌+◌, ◌-◌, ◌%◌, Bool, false, ◌&&◌, not, ◌==◌, List, [], ◌∷◌, filter, length, take, drop, flat_map, get_or, Option, Some, None}
+use Rattle.std.specs.List.{range_with_len, position, list_all, slice_get}
 use Rattle.keybytes.specs.Keys.{KeySpecValue}
 use Rattle.keybytes.specs.declared.pair.Pair.{Pair}
 use Rattle.heap_log.specs.declared.record.LogRec.{LogRec}
@@ -71,6 +71,14 @@ fed_to b index = get_or b.fed index 0
 abbrev pub unfed : BuildState → List LogRec → ℕ → Option KeySpecValue → ℕ
 unfed b log index None = 0
 unfed b log index (Some spec) = all_entries b log spec - fed_to b index
+
+-- the same of the first so many of the build's indexes, and of all
+abbrev pub unfed_before : ℕ → BuildState → List LogRec → ℕ
+unfed_before zero b log = 0
+unfed_before (suc n) b log = unfed_before n b log + unfed b log n (slice_get b.specs n)
+
+abbrev pub all_unfed : BuildState → List LogRec → ℕ
+all_unfed b log = unfed_before (length b.specs) b log
 
 -- how many wait in the ring to be applied
 abbrev pub in_ring : BuildState → WorkState → ℕ → ℕ

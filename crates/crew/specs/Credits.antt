@@ -1,13 +1,11 @@
 -- What sessions may write beside a build that catches up.
-use Rattle.std.specs.Prelude.{◌≡◌, ◌⊎◌, ℕ, suc, ◌+◌, ◌*◌, ◌<◌, ◌≤◌, List, [], ◌∷◌, length, Option, Some, None}
-use Rattle.keybytes.specs.Keys.{KeySpecValue}
-use Rattle.heap_log.specs.declared.record.LogRec.{LogRec}
+use Rattle.std.specs.Prelude.{◌≡◌, ◌⊎◌, ℕ, ◌+◌, ◌*◌, ◌<◌, ◌≤◌, List, length, Option, Some, None}
 use Rattle.build_events.specs.CoreState.{BuildState, LiveState}
-use Rattle.build_events.specs.Workers.{unfed}
 use Rattle.side_file.specs.Ends.{PutEnd}
 use Rattle.side_file.specs.declared.entry.Entry.{Entry}
 use Rattle.page_workers.specs.declared.copied.Copied.{Copied}
 use Rattle.live_lemmas.specs.Builds.{LiveValue}
+use Rattle.live_lemmas.specs.Settling.{waiting_in}
 use Rattle.crew.specs.declared.locked.credit.Credit.{Credit}
 
 -- A table behind its lock: what it is by itself, and what credit sessions have, where a build catches up
@@ -21,20 +19,7 @@ pub record LockedValue : Type 0 where
 abbrev pub locked_with : LiveValue → Option Credit → LockedValue
 locked_with live credit = record { state = live.state; pages = live.pages; sides = live.sides; credit = credit }
 
--- how many entries of the side-files of these indexes, which have the places from that one on, wait for the build
-abbrev pub unfed_from : BuildState → List LogRec → ℕ → List KeySpecValue → ℕ
-unfed_from b log index [] = 0
-unfed_from b log index (spec ∷ specs) = unfed b log index (Some spec) + unfed_from b log (suc index) specs
-
--- the same of all indexes of the build that runs, if one runs
-abbrev pub entries_waiting : Option BuildState → List LogRec → ℕ
-entries_waiting None log = 0
-entries_waiting (Some b) log = unfed_from b log 0 b.specs
-
-abbrev pub waiting_in : LiveState → ℕ
-waiting_in live = entries_waiting live.build live.heap.log
-
--- how many indexes it has
+-- how many indexes the build has, if one runs
 abbrev pub indexes_of_build : Option BuildState → ℕ
 indexes_of_build None = 0
 indexes_of_build (Some b) = length b.specs

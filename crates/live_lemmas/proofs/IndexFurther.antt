@@ -11,6 +11,7 @@ use Rattle.keybytes.specs.declared.fault.Fault.TheVariants.{NotLoaded}
 use Rattle.live_lemmas.specs.Builds.{LiveValue, core_state}
 use Rattle.building.specs.BuildingValue.{BuildingValue, WorkValue, work_state, index_state}
 use Rattle.live_lemmas.specs.CatchingUp.{IndexIsFurther, left_at, unapplied_at, further_by}
+use Rattle.live_lemmas.specs.Settling.{ring_at}
 use Rattle.build_events.specs.CoreState.{BuildState, IndexState, CoreState}
 use Rattle.build_events.specs.BuildSteps.{OnBuild, Feeds, Applies, AppliesSome, MayTakeMemory, build_cause, cause_if, apply_refusal, index_refusal}
 use Rattle.build_events.specs.Steps.{refusal}
@@ -53,6 +54,10 @@ module _ (index : ℕ) (s mid : CoreState) (it : IndexIsFurther index s mid) whe
       ap (left_at index) it.new_is
       ∙ ap (unapplied_at its_build from index) it.at
       ∙ ap (λ (i : IndexState). all_entries it.build s.live.heap.log it.spec - i.applied) index_now
+
+  -- how many wait in its ring
+  pub ring_is_now : ring_at index mid ≡ it.fed - it.applied
+  ring_is_now = ap (ring_at index) it.new_is ∙ waiting_now
 
   -- so many more were fed, or applied
   further_still :
@@ -188,6 +193,24 @@ fewer_left index s mid fed new moved count it some feeds applies =
           let small : 1 ≤ 256 = omega arith in
           let least : 1 ≤ min 256 ((it.fed + moved) - it.applied) = le-min small (enough moved_is some) in
           omega (arith, least, count_is, some, before, after)
+
+-- once as many are applied as wait, none waits
+pub emptied :
+    (index : ℕ) (s mid new : CoreState) (most count : ℕ) → IndexIsFurther index s mid → ring_at index mid ≤ most → Applies index most mid count new
+    → ring_at index new ≡ 0
+unfolding applied_further further_still
+emptied index s mid new most count it enough applies =
+    let next = applied_further index s mid it new most count applies in
+    let count_is = (applied_is index s mid it new most count applies).0 in
+    let before = ring_is_now index s mid it in
+    let after = ring_is_now index s new next in
+    by_count count_is enough before after where
+      by_count :
+          count ≡ min most (it.fed - it.applied) → ring_at index mid ≤ most → ring_at index mid ≡ it.fed - it.applied
+          → ring_at index new ≡ it.fed - (it.applied + count) → ring_at index new ≡ 0
+      by_count count_is enough before after =
+          let least : it.fed - it.applied ≤ min most (it.fed - it.applied) = le-min (omega (arith, enough, before)) (omega arith) in
+          omega (arith, least, count_is, after)
 
 -- an index as far as it is
 pub one_begins :

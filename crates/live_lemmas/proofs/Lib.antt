@@ -29,6 +29,7 @@ pub mod RunsToClose
 pub mod ScanCauses
 pub mod SentAll
 pub mod SentNext
+pub mod Settling
 pub mod SideEnds
 pub mod Sound
 pub mod Started

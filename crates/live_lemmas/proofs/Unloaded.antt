@@ -1,6 +1,6 @@
 -- The lowest index whose pairs are not in order.
 use Rattle.std.proofs.Common.{◌≡◌, ℕ, ◌<◌, ◌≤◌, Bool, false, List, length, map, Option, Some, None, refl, sym, ap, ◌∙◌, subst, arith}
-use Rattle.std.specs.Prelude.{is_some, nat_lt, not}
+use Rattle.std.specs.Prelude.{is_some, nat_lt, not, true}
 use Rattle.std.specs.Option.{option_map}
 use Rattle.std.specs.List.{position}
 use Rattle.std.proofs.lemmas.Bool.{false_from_ne_true, lt-ltb, ltb-true}
@@ -11,6 +11,7 @@ use Rattle.heap_table.specs.HeapState.{busy_txns}
 use Rattle.live_lemmas.specs.Builds.{LiveValue, IsRunning, StandsBeside, core_state, cause_of}
 use Rattle.building.specs.BuildingValue.{BuildingValue, WorkValue, IndexValue, index_state, work_state}
 use Rattle.live_lemmas.specs.CatchingUp.{MayCatchUp}
+use Rattle.live_lemmas.specs.Switching.{early_cause}
 use Rattle.build_events.specs.declared.event.Event.TheVariants.{Switch}
 use Rattle.build_events.specs.CoreState.{BuildState, IndexState, WorkState, CoreState}
 use Rattle.build_events.specs.Ranges.{open_range}
@@ -80,26 +81,44 @@ module _ (live : LiveValue) (building : BuildingValue) where
   abbrev now : WorkState
   now = work_state building.workers building.work
 
+  -- work that isn't spoiled, with the pairs of each index in order
+  may_by_causes : StandsBeside live building → (b : BuildState) → live.state.build ≡ Some b → now.spoiled ≡ None → unloaded_index now ≡ None → MayCatchUp (core_state live building)
+  may_by_causes works b runs fine none =
+      let many = indexes_many live building b runs works in
+      subst (λ (o : Option BuildState). OnBuild o (λ x. (index : ℕ) → index < length x.specs → apply_refusal x now index ≡ None)) (sym runs)
+      (λ index less.
+      let it = there_is now.indexes index (omega (arith, less, many)) in
+      let fails = all_fail (λ (i : IndexState). not i.loaded) now.indexes none index it.0 it.1 in
+      let seen : index_at now.indexes index ≡ it.0 = get_or_from_slice_get now.indexes index it.0 _ it.1 in
+      let told : not (index_at now.indexes index).loaded ≡ false = ap (λ (i : IndexState). not i.loaded) seen ∙ fails in
+      rw (inside_of b index less, fine, told) refl)
+
   pub may_catch_up : StandsBeside live building → cause_of live building Switch ≡ None → MayCatchUp (core_state live building)
   may_catch_up works free = by_build live.state.build refl where
     by_build : (o : Option BuildState) → live.state.build ≡ o → MayCatchUp (core_state live building)
     by_build None gone =
         absurd (let bad : Some NoBuild ≡ None = ap (λ (o : Option BuildState). build_cause o (λ b. switch_refusal b live.state.heap now)) (sym gone) ∙ free in cc)
     by_build (Some b) runs =
-        let many = indexes_many live building b runs works in
         let causes : switch_refusal b live.state.heap now ≡ None =
         ap (λ (o : Option BuildState). build_cause o (λ x. switch_refusal x live.state.heap now)) (sym runs) ∙ free in
         let fine = both_none now.spoiled _ causes in
         let scanned = both_none (option_map NotScanned (open_range b)) _ fine.1 in
         let loaded = both_none (option_map NotLoaded (unloaded_index now)) _ scanned.1 in
-        let none = no_fault (unloaded_index now) loaded.0 in
-        subst (λ (o : Option BuildState). OnBuild o (λ x. (index : ℕ) → index < length x.specs → apply_refusal x now index ≡ None)) (sym runs)
-        (λ index less.
-        let it = there_is now.indexes index (omega (arith, less, many)) in
-        let fails = all_fail (λ (i : IndexState). not i.loaded) now.indexes none index it.0 it.1 in
-        let seen : index_at now.indexes index ≡ it.0 = get_or_from_slice_get now.indexes index it.0 _ it.1 in
-        let told : not (index_at now.indexes index).loaded ≡ false = ap (λ (i : IndexState). not i.loaded) seen ∙ fails in
-        rw (inside_of b index less, fine.0, told) refl)
+        may_by_causes works b runs fine.0 (no_fault (unloaded_index now) loaded.0)
+
+  -- so does one that nothing keeps waiting before its workers are asked
+  pub early_may : StandsBeside live building → early_cause true (core_state live building) ≡ None → MayCatchUp (core_state live building)
+  early_may works free = by_build live.state.build refl where
+    early : BuildState → Option Fault
+    early b = first_cause now.spoiled (first_cause (option_map NotScanned (open_range b)) (option_map NotLoaded (unloaded_index now)))
+
+    by_build : (o : Option BuildState) → live.state.build ≡ o → MayCatchUp (core_state live building)
+    by_build None gone = absurd (let bad : Some NoBuild ≡ None = ap (λ (o : Option BuildState). build_cause o early) (sym gone) ∙ free in cc)
+    by_build (Some b) runs =
+        let causes : early b ≡ None = ap (λ (o : Option BuildState). build_cause o early) (sym runs) ∙ free in
+        let fine = both_none now.spoiled _ causes in
+        let scanned = both_none (option_map NotScanned (open_range b)) _ fine.1 in
+        may_by_causes works b runs fine.0 (no_fault (unloaded_index now) scanned.1)
 
 -- and still is once the indexes caught up
 pub may_after : (s new : CoreState) → CatchesUp s new → MayCatchUp s → MayCatchUp new

@@ -5,6 +5,7 @@ pub mod FullSpools
 pub mod Invariant
 pub mod Putting
 pub mod Rings
+pub mod Settling
 pub mod Switching
 pub mod Turns
 pub mod Visits

@@ -24,6 +24,7 @@ mod builds;
 mod part;
 mod sides;
 mod switch;
+mod turns;
 mod workers;
 mod writes;
 
