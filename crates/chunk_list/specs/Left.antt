@@ -2,8 +2,7 @@
 use Rattle.std.specs.Prelude.{List, ◌++◌}
 use Rattle.std.specs.List.{flat_map}
 use Rattle.std.specs.Vec.{vec_items}
-use Rattle.std.specs.VecDeque.{deque_items}
-use Rattle.std.specs.VecDeque.Iter.{deque_iter_rest}
+use Rattle.chunk_list.specs.Rest.{rest_of}
 use Rattle.chunk_list.specs.declared.list_items.ListItems.{ListItems}
 use Rattle.chunk_list.specs.declared.queue_items.QueueItems.{QueueItems}
 
@@ -13,4 +12,4 @@ module _ {T : Type 0} where
   list_items_left it = it.chunk.now ++ flat_map vec_items it.chunks.now
 
   abbrev pub queue_items_left : QueueItems T → List T
-  queue_items_left it = deque_iter_rest it.first ++ (flat_map deque_items (deque_iter_rest it.full) ++ deque_iter_rest it.last)
+  queue_items_left it = rest_of it.first it.full it.last

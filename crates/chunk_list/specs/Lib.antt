@@ -4,3 +4,4 @@ pub mod Filled
 pub mod Left
 pub mod Lends
 pub mod Moves
+pub mod Rest

@@ -246,10 +246,11 @@ impl<T: Drop> Chunks<T> {
         taken.keep(unused);
     }
 
-    /// The items in order.
-    pub fn iter(&self) -> QueueItems<'_, T>
+    /// The items in order, which are so many.
+    pub fn iter(&self, len: usize) -> QueueItems<'_, T>
+        requires { len ≡ length (chunk_items self.now) }
         ensures { queue_items_left result ≡ chunk_items self.now }
     {
-        QueueItems::new(self.first.iter(), self.full.iter(), self.last.iter())
+        QueueItems::new(self.first.iter(), self.full.iter(), self.last.iter(), len)
     }
 }

@@ -63,6 +63,11 @@ impl<T> ChunkList<T> {
         }
     }
 
+    /// Where its memory comes from.
+    pub fn allocator(&self) -> Global {
+        *self.chunks.allocator()
+    }
+
     /// How many items there are.
     #[inline]
     pub fn len(&self) -> usize

@@ -142,6 +142,6 @@ impl<T: Drop> ChunkQueue<T> {
     pub fn iter(&self) -> QueueItems<'_, T>
         ensures { queue_items_left result ≡ self.now.items }
     {
-        self.chunks.iter()
+        self.chunks.iter(self.len)
     }
 }

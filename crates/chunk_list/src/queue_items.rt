@@ -1,7 +1,5 @@
-ghost use Rattle.std.specs.Prelude.{◌≡◌, ◌++◌};
-ghost use Rattle.std.specs.List.{flat_map};
-ghost use Rattle.std.specs.VecDeque.{deque_items};
-ghost use Rattle.std.specs.VecDeque.Iter.{deque_iter_rest};
+ghost use Rattle.std.specs.Prelude.{◌≡◌, ◌++◌, length};
+ghost use Rattle.chunk_list.specs.Rest.{rest_of};
 
 use std::collections::VecDeque;
 use std::collections::vec_deque::Iter;
@@ -12,20 +10,29 @@ pub struct QueueItems<'a, T> {
     first: Iter<'a, T>,
     full: Iter<'a, VecDeque<T>>,
     last: Iter<'a, T>,
+    left: usize,
+    ghost counted: { left ≡ length (rest_of first full last) },
 }
 
 impl<'a, T> QueueItems<'a, T> {
     ghost use Rattle.chunk_list.specs.Left.{queue_items_left};
 
-    /// The items of a chunk, of those behind it, of the last.
+    /// The items of a chunk, of those behind it, of the last, and how many they are.
     pub(crate) fn new(
         first: Iter<'a, T>,
         full: Iter<'a, VecDeque<T>>,
         last: Iter<'a, T>,
+        left: usize,
     ) -> QueueItems<'a, T>
-        ensures { queue_items_left result ≡ deque_iter_rest first.entry ++ (flat_map deque_items (deque_iter_rest full.entry) ++ deque_iter_rest last.entry) }
+        requires { left ≡ length (rest_of first full last) }
+        ensures { queue_items_left result ≡ rest_of first.entry full.entry last.entry }
     {
-        QueueItems { first, full, last }
+        QueueItems {
+            first,
+            full,
+            last,
+            left,
+        }
     }
 }
 
@@ -43,12 +50,22 @@ impl<'a, T> Iterator for QueueItems<'a, T> {
     fn next(&mut self) -> Option<&'a T> {
         loop {
             if let Some(item) = self.first.next() {
+                self.left -= 1;
                 return Some(item);
             }
             let Some(chunk) = self.full.next() else {
-                return self.last.next();
+                let item = self.last.next()?;
+                self.left -= 1;
+                return Some(item);
             };
             self.first = chunk.iter();
         }
+    }
+}
+
+impl<'a, T> ExactSizeIterator for QueueItems<'a, T> {
+    #[inline]
+    fn len(&self) -> usize {
+        self.left
     }
 }
