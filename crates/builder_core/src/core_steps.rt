@@ -6,7 +6,7 @@ ghost use Rattle.heap_table.specs.Pages.{pages_written};
 ghost use Rattle.keybytes.specs.Pairs.{HaveKeysOf, AreInColumnOrder};
 ghost use Rattle.heap_table.specs.TablePairs.{pairs_at_rest};
 ghost use Rattle.build_events.specs.CoreState.{opening, abandoned, after_visits, with_heap, ReadyFollowTable};
-ghost use Rattle.std.specs.VecDeque.Iter.{deque_iter_rest};
+ghost use Rattle.chunk_list.specs.Left.{queue_items_left};
 ghost use Rattle.table_scan.specs.SideFiles.{AreEntriesLeft, HaveEntryKeys, side_refusal};
 ghost use Rattle.heap_log.specs.declared.outcome.Outcome.{Outcome};
 ghost use Rattle.build_events.specs.BuildSteps.{OnBuild};
@@ -17,11 +17,11 @@ ghost use Rattle.building.specs.Holding.{spools_in};
 ghost use Rattle.build_events.specs.Soundness.{BuildIsSound};
 
 use crate::{Building, Ends, Event, Live, Pair, Plan, ReadyIndex, Reply, TableRings};
+use chunk_list::QueueItems;
 use heap_table::{PageImage, Undone};
 use keybytes::{Fault, KeySpec, Rid, Row};
 use run_spool::Spool;
 use side_file::Entry;
-use std::collections::vec_deque::Iter;
 use std::marker::Model;
 
 /// A table with its ready indexes, and the work of the index build that may be running, with the spools for its pairs. Each ready
@@ -146,9 +146,9 @@ impl<S: Spool, T: TableRings> Core<S, T> {
 
     /// The entries of an index's side-file that were not fed yet, in order. [`Fault::NoBuild`] where no build runs,
     /// [`Fault::BadCount`] where the build has no such index.
-    pub fn side(&self, index: usize) -> Result<Iter<'_, Entry>, Fault>
-        ensures ok { IfOk result (λ entries. AreEntriesLeft self.now.live.heap.log self.now.live.build index (deque_iter_rest entries)) }
-        ensures keys { IfOk result (λ entries. HaveEntryKeys self.now.live.build index (deque_iter_rest entries)) }
+    pub fn side(&self, index: usize) -> Result<QueueItems<'_, Entry>, Fault>
+        ensures ok { IfOk result (λ entries. AreEntriesLeft self.now.live.heap.log self.now.live.build index (queue_items_left entries)) }
+        ensures keys { IfOk result (λ entries. HaveEntryKeys self.now.live.build index (queue_items_left entries)) }
         ensures refused { IfErr result (λ fault. side_refusal self.now.live.build index ≡ Some fault) }
         ensures accepted { OnOk result (side_refusal self.now.live.build index ≡ None) }
     {

@@ -14,7 +14,7 @@ ghost use Rattle.building.specs.Rings.{all_sent, put_rings, AreOfBuilds};
 ghost use Rattle.live_lemmas.specs.Rings.{ArePutEnds};
 ghost use Rattle.live_lemmas.specs.Invariant.{EachPageOnce};
 ghost use Rattle.build_events.specs.Soundness.{BuildIsSound};
-ghost use Rattle.std.specs.VecDeque.Iter.{deque_iter_rest};
+ghost use Rattle.chunk_list.specs.Left.{queue_items_left};
 ghost use Rattle.table_scan.specs.SideFiles.{AreEntriesLeft, EachEntryOnce, EntriesAreOfBuilds, HaveEntryKeys, NoneAhead, side_refusal, side_rings, put_ends};
 ghost use Rattle.build_events.specs.CoreState.{abandoned, after_visits, ReadyFollowTable};
 ghost use Rattle.ready_indexes.specs.Following.{indexes_of};
@@ -31,13 +31,13 @@ mod writes;
 use crate::rest::at_rest;
 use crate::unnamed_live::UnnamedLive;
 use crate::{Pair, TableRings};
+use chunk_list::QueueItems;
 use heap_table::Heap;
 use keybytes::{Fault, KeySpec, Rid, Row};
 use page_workers::PagePutter;
 use ready_indexes::ReadyIndexes;
 use side_file::{Entry, SideFile};
 use std::alloc::Global;
-use std::collections::vec_deque::Iter;
 use std::marker::{Model, PhantomData};
 use table_scan::{TableScan, reset_all};
 
@@ -170,9 +170,9 @@ impl<T: TableRings> Live<T> {
 
     /// The entries of an index's side-file that were not fed yet, in order. [`Fault::NoBuild`] where no build runs,
     /// [`Fault::BadCount`] where the build has no such index.
-    pub fn side(&self, index: usize) -> Result<Iter<'_, Entry>, Fault>
-        ensures ok { IfOk result (λ entries. AreEntriesLeft self.now.state.heap.log self.now.state.build index (deque_iter_rest entries)) }
-        ensures keys { IfOk result (λ entries. HaveEntryKeys self.now.state.build index (deque_iter_rest entries)) }
+    pub fn side(&self, index: usize) -> Result<QueueItems<'_, Entry>, Fault>
+        ensures ok { IfOk result (λ entries. AreEntriesLeft self.now.state.heap.log self.now.state.build index (queue_items_left entries)) }
+        ensures keys { IfOk result (λ entries. HaveEntryKeys self.now.state.build index (queue_items_left entries)) }
         ensures refused { IfErr result (λ fault. side_refusal self.now.state.build index ≡ Some fault) }
         ensures accepted { OnOk result (side_refusal self.now.state.build index ≡ None) }
     {

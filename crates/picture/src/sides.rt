@@ -1,17 +1,17 @@
 //! The side-files of a build, as they are before a command and behind it.
 
 ghost use Rattle.std.specs.List.{All};
-ghost use Rattle.std.specs.VecDeque.Iter.{deque_iter_rest};
+ghost use Rattle.chunk_list.specs.Left.{queue_items_left};
 ghost use Rattle.keybytes.specs.Keys.{IsKeyOf};
 
 use crate::failure::Failure;
 use crate::timeline_svg::{Mark, MarkKind};
 use crate::words::key_at;
 use builder_core::{Core, Entry, INDEXES_MAX, Op, TableRings};
+use chunk_list::QueueItems;
 use keybytes::KeySpec;
 use prefix_spool::SpoolOfKind;
 use std::alloc::Global;
-use std::collections::vec_deque::Iter;
 
 /// How many entries the side-file of each index has that aren't fed yet; none where no build runs.
 pub fn counts<T: TableRings>(
@@ -46,12 +46,12 @@ pub fn mark_added<T: TableRings>(
 fn mark_behind(
     alloc: Global,
     spec: &KeySpec,
-    entries: Iter<'_, Entry>,
+    entries: QueueItems<'_, Entry>,
     before: usize,
     lane: usize,
     marks: &mut Vec<Mark>,
 ) -> Result<(), Failure>
-    requires { All (λ entry. IsKeyOf spec.now entry.key) (deque_iter_rest entries) }
+    requires { All (λ entry. IsKeyOf spec.now entry.key) (queue_items_left entries) }
 {
     let mut place = 0usize;
     for entry in entries {

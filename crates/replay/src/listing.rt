@@ -4,7 +4,7 @@ ghost use Rattle.replay.specs.declared.shared_line.SharedLine.{SharedLine};
 ghost use Rattle.std.specs.List.{AllZip};
 ghost use Rattle.keybytes.specs.Pairs.{HaveKeysOf};
 ghost use Rattle.std.specs.List.{All};
-ghost use Rattle.std.specs.VecDeque.Iter.{deque_iter_rest};
+ghost use Rattle.chunk_list.specs.Left.{queue_items_left};
 ghost use Rattle.keybytes.specs.Keys.{IsKeyOf};
 ghost use Rattle.replay.specs.Listings.{ListsPair, ListsEntry, ListsShared};
 
@@ -13,11 +13,11 @@ use crate::pair_line::PairLine;
 use crate::shared_line::SharedLine;
 use btree::Tree;
 use builder_core::{Core, Entry, Pair, TableRings};
+use chunk_list::QueueItems;
 use heap_log::Outcome;
 use keybytes::{Fault, KeySpec, copied_specs};
 use prefix_spool::SpoolOfKind;
 use std::alloc::Global;
-use std::collections::vec_deque::Iter;
 
 /// The pairs of an index as they are printed.
 pub fn pair_lines(alloc: Global, spec: &KeySpec, pairs: &[Pair]) -> Result<Vec<PairLine>, Fault>
@@ -61,10 +61,10 @@ fn pair_line(spec: &KeySpec, pair: &Pair) -> Result<PairLine, Fault>
 pub fn entry_lines(
     alloc: Global,
     spec: &KeySpec,
-    entries: Iter<'_, Entry>,
+    entries: QueueItems<'_, Entry>,
 ) -> Result<Vec<EntryLine>, Fault>
-    requires { All (λ entry. IsKeyOf spec.now entry.key) (deque_iter_rest entries) }
-    ensures lists { IfOk result (λ lines. AllZip (ListsEntry spec.now) (deque_iter_rest entries.entry) lines.items) }
+    requires { All (λ entry. IsKeyOf spec.now entry.key) (queue_items_left entries) }
+    ensures lists { IfOk result (λ lines. AllZip (ListsEntry spec.now) (queue_items_left entries.entry) lines.items) }
     ensures memory { IfErr result (λ fault. fault ≡ Fault.Memory) }
 {
     let mut lines = Vec::new(alloc);

@@ -5,9 +5,8 @@ use Rattle.std.specs.Prelude.{◌≡◌, ℕ, ◌+◌, ◌-◌, ◌^◌, ◌<◌
 abbrev pub last_ones : {X : Type 0} → ℕ → List X → List X
 last_ones n xs = drop (length xs - n) xs
 
--- the ring has 256 places, what was fed was sent, each entry that finds room has its place, and all can be counted
-pub record IsKept (capacity sent fed left room places : ℕ) : Type 0 where
+-- the ring has 256 places, what was fed was sent, and all can be counted
+pub record IsKept (capacity sent fed left room : ℕ) : Type 0 where
   pub ring : capacity ≡ 256
   pub fed_was_sent : fed ≤ sent
-  pub has_places : left + room ≤ places
   pub countable : fed + left + room < 2 ^ 60

@@ -1,17 +1,15 @@
 ghost use Rattle.std.specs.Prelude.{◌≡◌, ◌+◌, ◌<◌, ◌≤◌, [], ◌∷◌, ◌++◌, None, length, take, drop, IfOk, IfErr, IsOk};
-ghost use Rattle.std.specs.VecDeque.{deque_capacity};
-ghost use Rattle.std.specs.VecDeque.Iter.{deque_iter_rest};
+ghost use Rattle.chunk_list.specs.Left.{queue_items_left};
 ghost use Rattle.rtrb.specs.Ring.{sent, known_free, received, known_items, SameProducer, ConsumerLooked};
 ghost use Rattle.keybytes.specs.Answered.{Answered};
 ghost use Rattle.side_file.specs.Ends.{ring_take};
 ghost use Rattle.side_file.specs.Changes.{all_appended, appended, emptied, Reserves, Feeds, Looks, feed_most, IsSideFile};
 
 use crate::Entry;
+use chunk_list::{ChunkQueue, QueueItems};
 use keybytes::Fault;
 use rtrb::{Consumer, Producer, RingBuffer};
 use std::alloc::Global;
-use std::collections::VecDeque;
-use std::collections::vec_deque::Iter;
 use std::marker::Model;
 
 /// How many entries a ring has room for, and so the most that one call feeds.
@@ -24,10 +22,10 @@ const ENTRIES_END: usize = 1_152_921_504_606_846_976;
 /// and this end of the ring.
 pub struct SideFile {
     producer: Producer<Entry>,
-    left: VecDeque<Entry>,
+    /// Its room is the side-file's.
+    left: ChunkQueue<Entry>,
     /// How many were fed since the last reset: the last ones that the ring was sent.
     fed: usize,
-    room: usize,
 }
 
 impl Drop for SideFile {
@@ -36,7 +34,6 @@ impl Drop for SideFile {
             producer: _,
             left: _,
             fed: _,
-            room: _,
         } = self;
     }
 }
@@ -47,15 +44,14 @@ impl Model for SideFile {
     ghost Value = { SideFileValue };
 
     ghost use Rattle.std.specs.Prelude.{length};
-    ghost use Rattle.std.specs.VecDeque.{deque_capacity};
     ghost use Rattle.rtrb.specs.Ring.{sent, producer_capacity};
     ghost use Rattle.side_file.specs.Ends.{put_end};
     ghost use Rattle.side_file.specs.Kept.{last_ones, IsKept};
 
-    ghost view = { λ side. record { fed = last_ones side.fed (sent side.producer); left = side.left.items; room = side.room; end = put_end side.producer } };
+    ghost view = { λ side. record { fed = last_ones side.fed (sent side.producer); left = side.left.items; room = side.left.room; end = put_end side.producer } };
 
     ghost invariant = { λ side. IsKept (producer_capacity side.producer) (length (sent side.producer)) side.fed
-        (length side.left.items) side.room (deque_capacity side.left) };
+        (length side.left.items) side.left.room };
 }
 
 impl SideFile {
@@ -70,9 +66,8 @@ impl SideFile {
         let (producer, consumer) = RingBuffer::new(alloc, RING_ENTRIES)?;
         let side = SideFile {
             producer,
-            left: VecDeque::new(alloc),
+            left: ChunkQueue::new(alloc),
             fed: 0,
-            room: 0,
         };
         Ok((side, consumer))
     }
@@ -112,14 +107,10 @@ impl SideFile {
         ensures reserved { Answered None (Reserves n) self.old result self.new }
         ensures succeeds { n ≤ self.old.room → IsOk result }
     {
-        if n <= self.room {
-            return Ok(());
-        }
         if ENTRIES_END - self.fed - self.left() <= n {
             return Err(Fault::Memory);
         }
         self.left.reserve(n)?;
-        self.room = n;
         Ok(())
     }
 
@@ -130,7 +121,6 @@ impl SideFile {
         ensures all { all_appended self.new ≡ all_appended self.old ++ entry ∷ [] }
     {
         self.left.push_back_reserved(entry);
-        self.room -= 1;
     }
 
     /// Moves the first entries that are left into the ring: at most `k`, [`RING_ENTRIES`] and the ring's room. Answers how many.
@@ -164,21 +154,21 @@ impl SideFile {
     }
 
     /// Those that aren't fed yet, in order.
-    pub fn entries(&self) -> Iter<'_, Entry>
-        ensures { deque_iter_rest result ≡ self.now.left }
+    pub fn entries(&self) -> QueueItems<'_, Entry>
+        ensures { queue_items_left result ≡ self.now.left }
     {
         self.left.iter()
     }
 }
 
 // Moves the first `count` entries into the ring.
-fn move_first(left: &mut VecDeque<Entry>, producer: &mut Producer<Entry>, count: usize)
+fn move_first(left: &mut ChunkQueue<Entry>, producer: &mut Producer<Entry>, count: usize)
     requires some { count ≤ length left.old.items }
     requires free { count ≤ known_free producer.old }
     ensures ring { SameProducer producer.old producer.new }
     ensures sent { sent producer.new ≡ sent producer.old ++ take count left.old.items }
     ensures left { left.new.items ≡ drop count left.old.items }
-    ensures room { deque_capacity left.new ≡ deque_capacity left.old }
+    ensures room { left.new.room ≡ left.old.room }
     ensures taken { known_free producer.old ≡ known_free producer.new + count }
 {
     for _ in 0..count {

@@ -1,11 +1,11 @@
 //! Pairs and entries as they are printed.
 
 use builder_core::{Entry, Pair};
+use chunk_list::QueueItems;
 use heap_log::Outcome;
 use keybytes::{Cell, Fault, Key};
 use replay::{Answer, EntryLine, PairLine, SharedLine};
 use std::alloc::Global;
-use std::collections::vec_deque::Iter;
 
 /// The number, not below 0, whose key that is: a byte that tells a number from none, and its eight bytes from the
 /// greatest on, with the least number at 0.
@@ -40,7 +40,7 @@ pub fn listed(alloc: Global, pairs: &[Pair]) -> Result<Answer, Fault> {
     Ok(Answer::Pairs { lines })
 }
 
-pub fn listed_entries(alloc: Global, entries: Iter<'_, Entry>) -> Result<Answer, Fault> {
+pub fn listed_entries(alloc: Global, entries: QueueItems<'_, Entry>) -> Result<Answer, Fault> {
     let mut lines = Vec::new(alloc);
     for entry in entries {
         lines.push(EntryLine {

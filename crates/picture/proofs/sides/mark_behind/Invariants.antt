@@ -1,5 +1,5 @@
 use Rattle.std.specs.List.{All}
-use Rattle.std.specs.VecDeque.Iter.{deque_iter_rest}
+use Rattle.chunk_list.specs.Left.{queue_items_left}
 use Rattle.keybytes.specs.Keys.{IsKeyOf}
 use Rattle.side_file.specs.declared.entry.Entry.{Entry}
 use Rattle.picture.proofs.sides.mark_behind.Given as goal
@@ -7,4 +7,4 @@ use Rattle.picture.proofs.sides.mark_behind.Given as goal
 abbrev pub invariant-loop-entry : goal.invariant-loop-entry
 invariant-loop-entry l =
     (goal.iterator-loop-entry).can_next l.entry-iterator × (goal.iterator-loop-entry).is_finite l.entry-iterator
-    × All (λ (entry : Entry). IsKeyOf l.spec entry.key) (deque_iter_rest l.entry-iterator)
+    × All (λ (entry : Entry). IsKeyOf l.spec entry.key) (queue_items_left l.entry-iterator)

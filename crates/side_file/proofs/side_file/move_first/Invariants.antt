@@ -1,5 +1,4 @@
 use Rattle.std.proofs.Common.{◌≡◌, ◌+◌, ◌++◌, take, drop}
-use Rattle.std.specs.VecDeque.{deque_capacity}
 use Rattle.rtrb.specs.Ring.{sent, known_free, SameProducer}
 use Rattle.side_file.proofs.side_file.move_first.Given as goal
 
@@ -8,6 +7,6 @@ invariant-loop l = record {
   ring : SameProducer l.initial.producer l.producer;
   sent : sent l.producer ≡ sent l.initial.producer ++ take l.counter l.initial.left.items;
   left : l.left.items ≡ drop l.counter l.initial.left.items;
-  room : deque_capacity l.left ≡ deque_capacity l.initial.left;
+  room : l.left.room ≡ l.initial.left.room;
   taken : known_free l.initial.producer ≡ known_free l.producer + l.counter;
 }

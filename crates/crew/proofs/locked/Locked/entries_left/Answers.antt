@@ -1,6 +1,6 @@
 use Rattle.std.proofs.Common.{◌≡◌, ◌≤◌, ◌<◌, ◌+◌, ◌^◌, List, length, sym, subst, arith}
 use Rattle.std.specs.Prelude.{MatchOption}
-use Rattle.std.specs.VecDeque.Iter.{deque_iter_rest}
+use Rattle.chunk_list.specs.Left.{queue_items_left}
 use Rattle.side_file.specs.declared.entry.Entry.{Entry}
 use Rattle.table_scan.specs.SideFiles.{AreEntriesLeft}
 use Rattle.crew.specs.Credits.{LockedValue, indexes_of_build, waiting_in}
@@ -11,7 +11,7 @@ pub returns-in_err-left : goal.returns-in_err-left
 returns-in_err-left g c =
     let live = c.args.self.now.state in
     let index = c.loop-index.index in
-    let entries : List Entry = deque_iter_rest c.in-Ok.entries in
+    let entries : List Entry = queue_items_left c.in-Ok.entries in
     let left = subst (λ (l : LockedValue). AreEntriesLeft l.state.heap.log l.state.build index entries) c.self.view_is c.in-Ok.ensures.ok in
     let less : index < indexes_of_build live.build = omega (arith, c.loop-index-test.true, c.indexes-index-end.ensures) in
     let next = behind_next live.build live.heap.log index entries less left in
@@ -23,7 +23,7 @@ pub loop-index-preserved : goal.loop-index-preserved
 loop-index-preserved g c =
     let live = c.args.self.now.state in
     let index = c.loop-index.index in
-    let entries : List Entry = deque_iter_rest c.in-Ok.entries in
+    let entries : List Entry = queue_items_left c.in-Ok.entries in
     let left = subst (λ (l : LockedValue). AreEntriesLeft l.state.heap.log l.state.build index entries) c.self.view_is c.in-Ok.ensures.ok in
     let less : index < indexes_of_build live.build = omega (arith, c.loop-index-test.true, c.indexes-index-end.ensures) in
     let next = behind_next live.build live.heap.log index entries less left in
