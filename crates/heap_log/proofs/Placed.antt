@@ -1,5 +1,5 @@
 -- The heads that a record changes have places, and numbers that can be kept.
-use Rattle.std.proofs.Common.{◌≡◌, ℕ, ◌+◌, ◌<◌, true, false, List, length, Option, Some, None, refl, sym, ap, ◌∙◌, arith, subst}
+use Rattle.std.proofs.Common.{◌≡◌, ℕ, ◌+◌, ◌<◌, true, List, length, Option, Some, None, refl, sym, ap, ◌∙◌, arith, subst}
 use Rattle.std.specs.Prelude.{IfSome}
 use Rattle.std.proofs.lemmas.Bool.{cond-true, false≢true}
 use Rattle.std.proofs.lemmas.Option.{same_Some}
@@ -12,7 +12,7 @@ use Rattle.heap_log.specs.declared.rid_head.RidHead.{RidHead}
 use Rattle.heap_log.specs.declared.heads.Heads.{Heads}
 use Rattle.heap_log.specs.Growing.{changed_rid}
 use Rattle.heap_log.specs.Heads.{rid_head, AreHeadsAfter}
-use Rattle.heap_log.specs.PageHeads.{no_head, rid_head_in, places_of, IsNumbered}
+use Rattle.heap_log.specs.PageHeads.{rid_head_in, places_of, IsNumbered}
 use Rattle.heap_log.specs.Places.{HasPlace, HasPlaceFor}
 use Rattle.heap_log.specs.Standing.{record_at, is_write_at, last_at, newest_at, place_of, IsWrite}
 use Rattle.heap_log.proofs.Last.{last_below_none}

@@ -1,9 +1,9 @@
 -- What a log keeps of each transaction and each RID.
-use Rattle.std.specs.Prelude.{◌≡◌, ℕ, ◌+◌, ◌≤◌, ◌==◌, nat_eq, if◌then◌else◌, List, length, Option, Some, None, unwrap_or, Vec, vec_len, vec_capacity}
+use Rattle.std.specs.Prelude.{◌≡◌, ℕ, ◌+◌, ◌≤◌, ◌==◌, nat_eq, if◌then◌else◌, List, length, Option, Some, None, unwrap_or}
 use Rattle.std.specs.HashMap.{HashMap, get, spare}
-use Rattle.std.specs.declared.alloc.Global.{Global}
 use Rattle.std.specs.declared.hash.FoldHasher.{FoldHasher}
 use Rattle.std.specs.declared.hash.BuildHasherDefault.{BuildHasherDefault}
+use Rattle.chunk_list.specs.ChunkValue.{ChunkValue}
 use Rattle.keybytes.specs.declared.rid.Rid.{Rid}
 use Rattle.heap_log.specs.declared.record.LogRec.{LogRec}
 use Rattle.heap_log.specs.declared.link.Link.{Link}
@@ -45,10 +45,10 @@ pub record AreHeadsAfter (old new : List LogRec) (heads : Option Heads) : Type 0
   pub rids : (rid : Rid) → rid_head new rid ≡ with_rid heads rid (rid_head old rid)
 
 -- links and heads go with the records, and there is room for that many more records, with what is kept of each
-pub record IsKept (entries : Vec LogRec Global) (beside : Vec Link Global) (of_txns : TxnHeads) (at_rids : List (List RidHead)) (room : ℕ) : Type 0 where
+pub record IsKept (entries : ChunkValue LogRec) (beside : ChunkValue Link) (of_txns : TxnHeads) (at_rids : List (List RidHead)) (room : ℕ) : Type 0 where
   pub links : AreLinks entries.items beside.items
   pub txns : (txn : ℕ) → txn_head_in of_txns txn ≡ txn_head entries.items txn
   pub rids : (rid : Rid) → rid_head_in at_rids rid ≡ rid_head entries.items rid
-  pub records_room : vec_len entries + room ≤ vec_capacity entries
-  pub links_room : vec_len beside + room ≤ vec_capacity beside
+  pub records_room : room ≤ entries.room
+  pub links_room : room ≤ beside.room
   pub txns_room : room ≤ spare of_txns

@@ -1,9 +1,10 @@
-ghost use Rattle.std.specs.Prelude.{◌≡◌, None, false, vec_len, vec_capacity};
+ghost use Rattle.std.specs.Prelude.{◌≡◌, None, false, length};
 ghost use Rattle.heap_log.specs.Links.{link_before, AreMarked};
 ghost use Rattle.heap_log.specs.Standing.{NamesEarlier};
 
 use crate::LogRec;
 use crate::chain::Chain;
+use chunk_list::ChunkList;
 
 /// What the log keeps beside a record. A write's links lead to the writes that were the newest standing ones when it
 /// came; those may be undone since.
@@ -42,11 +43,10 @@ impl Link {
 }
 
 /// Marks what the record undoes.
-pub(crate) fn mark_undone(links: &mut Vec<Link>, added: &LogRec)
-    requires { NamesEarlier (vec_len links.old) added.now }
+pub(crate) fn mark_undone(links: &mut ChunkList<Link>, added: &LogRec)
+    requires { NamesEarlier (length links.old.items) added.now }
     ensures marked { AreMarked added.now links.old.items links.new.items }
-    ensures len { vec_len links.new ≡ vec_len links.old }
-    ensures capacity { vec_capacity links.new ≡ vec_capacity links.old }
+    ensures room { links.new.room ≡ links.old.room }
 {
     if let LogRec::Undo { undone, .. } = added {
         links[*undone - 1].undone = true;

@@ -13,6 +13,7 @@ use crate::link::{Link, mark_undone};
 use crate::page_heads::{PageHeads, set_rid_head};
 use crate::rid_head::RidHead;
 use crate::txn_head::{TxnHead, TxnHeads, set_txn_head, txn_head};
+use chunk_list::ChunkList;
 use keybytes::{Fault, Rid};
 use std::alloc::Global;
 use std::collections::HashMap;
@@ -22,8 +23,8 @@ use std::marker::Model;
 /// how many slots of each page it can take writes.
 #[derive(Drop)]
 pub struct Log {
-    records: Vec<LogRec>,
-    links: Vec<Link>,
+    records: ChunkList<LogRec>,
+    links: ChunkList<Link>,
     txns: TxnHeads,
     rids: PageHeads,
     room: usize,
@@ -59,8 +60,8 @@ impl Log {
         ensures places { result.places ≡ [] }
     {
         Log {
-            records: Vec::new(alloc),
-            links: Vec::new(alloc),
+            records: ChunkList::new(alloc),
+            links: ChunkList::new(alloc),
             txns: HashMap::new(alloc),
             rids: PageHeads::new(alloc),
             room: 0,

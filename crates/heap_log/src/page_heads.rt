@@ -1,5 +1,5 @@
 //! The heads of all RIDs, by page and slot.
-ghost use Rattle.std.specs.Prelude.{◌≡◌, ◌<◌, ◌≤◌, ◌+◌, ◌++◌, [], ◌∷◌, length, replicate, vec_len, vec_capacity, IsOk, IfSome, IfErr, OnOk, OnErr, if◌then◌else◌};
+ghost use Rattle.std.specs.Prelude.{◌≡◌, ◌<◌, ◌≤◌, ◌+◌, ◌++◌, [], ◌∷◌, length, replicate, IsOk, IfSome, IfErr, OnOk, OnErr, if◌then◌else◌};
 ghost use Rattle.keybytes.specs.declared.rid.Rid.{Rid};
 ghost use Rattle.keybytes.specs.Rids.{same_rid};
 ghost use Rattle.heap_log.specs.Heads.{with_rid};
@@ -9,6 +9,7 @@ ghost use Rattle.heap_log.specs.Places.{HasPlace};
 use crate::heads::Heads;
 use crate::rid_head::RidHead;
 use crate::slot_heads::SlotHeads;
+use chunk_list::ChunkList;
 use keybytes::{Fault, Rid};
 use std::alloc::Global;
 use std::marker::Model;
@@ -16,7 +17,7 @@ use std::marker::Model;
 /// The heads of RIDs: for each page an array of its slots. Contracts see the heads of each page.
 #[derive(Drop)]
 pub(crate) struct PageHeads {
-    pages: Vec<SlotHeads>,
+    pages: ChunkList<SlotHeads>,
 }
 
 impl Model for PageHeads {
@@ -34,7 +35,7 @@ impl PageHeads {
         ensures { result ≡ [] }
     {
         PageHeads {
-            pages: Vec::new(alloc),
+            pages: ChunkList::new(alloc),
         }
     }
 
@@ -84,7 +85,7 @@ impl PageHeads {
         ensures err { OnErr result (self.new ≡ self.old) }
         ensures memory { IfErr result (λ fault. fault ≡ Fault.Memory) }
     {
-        let mut slots = SlotHeads::new(*self.pages.allocator());
+        let mut slots = SlotHeads::new(self.pages.allocator());
         slots.reserve(rid.slot)?;
         let below = rid.page as usize - self.pages.len();
         self.pages.reserve(below + 1)?;
@@ -95,13 +96,12 @@ impl PageHeads {
 }
 
 /// Adds that many pages without a place. Takes no memory.
-fn push_empty(pages: &mut Vec<SlotHeads>, count: usize)
-    requires { vec_len pages.old + count ≤ vec_capacity pages.old }
+fn push_empty(pages: &mut ChunkList<SlotHeads>, count: usize)
+    requires { count ≤ pages.old.room }
     ensures items { pages.new.items ≡ pages.old.items ++ replicate count [] }
-    ensures len { vec_len pages.new ≡ vec_len pages.old + count }
-    ensures capacity { vec_capacity pages.new ≡ vec_capacity pages.old }
+    ensures room { pages.new.room + count ≡ pages.old.room }
 {
-    let alloc = *pages.allocator();
+    let alloc = pages.allocator();
     for _ in 0..count {
         pages.push_reserved(SlotHeads::new(alloc));
     }

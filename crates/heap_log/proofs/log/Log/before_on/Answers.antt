@@ -18,7 +18,7 @@ index-link-requires c =
     let leads = rw c.in-Some.is at c.loop-place.invariant in
     let at : Linked c.args.self.now.records c.self.inside.links.items c.in-Some.earlier =
     walk_at _ _ h c.args.chain (record_at c.args.self.now.records c.args.number) _ _ leads in
-    omega (arith, at.inside, c.self.inside.links.ok)
+    omega (arith, at.inside)
 
 pub returns-then-not-link : goal.returns-then-not-link
 returns-then-not-link c =

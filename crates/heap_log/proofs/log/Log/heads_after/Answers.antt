@@ -9,7 +9,7 @@ pub returns-in-Write-clause-heads : goal.returns-in-Write-clause-heads
 returns-in-Write-clause-heads c =
     let view = ap (λ (v : LogValue). v.records) c.self.view_is in
     let h : AreLinks c.args.self.now.records c.self.inside.links.items = rw view at c.self.invariant.links in
-    let number : c.len-number.result + 1 ≡ length c.args.self.now.records + 1 = omega (arith, ap length view, c.self.inside.records.ok) in
+    let number : c.len-number.result + 1 ≡ length c.args.self.now.records + 1 = omega (arith, ap length view, c.len-number.ensures.value) in
     rw c.in-Write.is (heads-write c.args.self.now.records c.in-Write.txn c.in-Write.rid c.in-Write.row c.heads_with.result
     (undone-past _ h.earlier (length c.args.self.now.records + 1) (omega arith)) c.heads_with.ensures.txn c.heads_with.ensures.rid
     (rw number at c.heads_with.ensures.last) (rw number at c.heads_with.ensures.newest) c.heads_with.ensures.standing

@@ -19,5 +19,5 @@ returns-clause-ok c =
     let whole : rid.slot + 1 - 0 ≡ rid.slot + 1 = omega arith in
     c.in_ok-reserve.ensures.ok ∙ ap (λ (heads : List RidHead). heads ++ replicate (rid.slot + 1 - length heads) no_head) c.new-slots.ensures
     ∙ ap (λ (n : ℕ). replicate n no_head) whole in
-    let is : rid.page ≡ length old + below = omega (arith, c.self.inside.pages.ok, c.len.ensures, ap length c.self.view_is, c.requires) in
+    let is : rid.page ≡ length old + below = omega (arith, c.len.ensures.value, ap length c.self.view_is, c.requires) in
     subst (λ (p : List (List RidHead)). IsReserved rid p new) c.self.view_is (pages_reserved old new slots rid below is more made)

@@ -9,6 +9,6 @@ pub returns-clause-ok : goal.returns-clause-ok
 returns-clause-ok c =
     let pages = c.self.inside.pages.items in
     let new = c.reserve.new.self in
-    let inside : c.args.rid.page < length pages = omega (arith, c.self.inside.pages.ok) in
+    let inside : c.args.rid.page < length pages = omega (arith, c.len.ensures.value) in
     on_ok_weaker c.reserve.result (λ more. subst (λ (p : List (List RidHead)). IsReserved c.args.rid p (set pages c.args.rid.page new)) c.self.view_is
     (page_reserved pages c.index_mut-slots.result.now new c.args.rid inside c.index_mut-slots.ensures.value more)) c.reserve.ensures.ok
