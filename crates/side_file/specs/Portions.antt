@@ -1,5 +1,5 @@
 -- The entries that go through a ring, portion by portion.
-use Rattle.std.specs.Prelude.{◌≡◌, ℕ, ◌+◌, ◌-◌, ◌^◌, ◌<◌, ◌≤◌, List, [], ◌∷◌, ◌++◌, length, Option}
+use Rattle.std.specs.Prelude.{◌+◌, ◌^◌, ◌<◌, List, [], ◌∷◌, length}
 use Rattle.std.specs.List.{flat_map}
 use Rattle.side_file.specs.declared.entry.Entry.{Entry}
 use Rattle.side_file.specs.declared.portion.Portion.{Portion}
