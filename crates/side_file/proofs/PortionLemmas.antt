@@ -182,7 +182,8 @@ module _ {P : Type 0} where
       )
 
 -- a portion more was sent
-pub sent_more : (put count : ℕ) (old mid new : List Portion) (portion : Portion) → mid ≡ old → new ≡ mid ++ portion ∷ [] → length (portion_entries portion) ≡ count
+pub sent_more : (put count : ℕ) (old mid new : List Portion) (portion : Portion) → mid ≡ old → new ≡ mid ++ portion ∷ []
+    → length (portion_entries portion) ≡ count
     → 0 < count → All HasSome old → put ≡ length (entries_of old) → All HasSome new × (put + count ≡ length (entries_of new))
 sent_more put count old mid new portion same pushed long more some is =
     let here : HasSome portion = omega (arith, long, more) in (

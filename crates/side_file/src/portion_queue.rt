@@ -33,7 +33,10 @@ impl Model for PortionQueue {
     ghost use Rattle.std.specs.VecDeque.{deque_len, deque_capacity};
     ghost use Rattle.side_file.specs.Queues.{at_hand, IsAtHand};
 
-    ghost view = { λ queue. record { entries = at_hand queue.first queue.chunks.items queue.next.items; room = deque_capacity queue.next - deque_len queue.next } };
+    ghost view = { λ queue. record {
+      entries = at_hand queue.first queue.chunks.items queue.next.items;
+      room = deque_capacity queue.next - deque_len queue.next;
+    } };
 
     ghost invariant = { λ queue. IsAtHand queue.first queue.chunks.items queue.next.items queue.len (deque_capacity queue.next) };
 }

@@ -53,7 +53,12 @@ impl Model for SideFile {
     ghost use Rattle.side_file.specs.Kept.{last_ones, IsKept};
     ghost use Rattle.side_file.specs.Portions.{entries_of};
 
-    ghost view = { λ side. record { fed = last_ones side.fed (entries_of (sent side.producer)); left = side.left.items; room = side.left.room; end = put_entries side.producer } };
+    ghost view = { λ side. record {
+      fed = last_ones side.fed (entries_of (sent side.producer));
+      left = side.left.items;
+      room = side.left.room;
+      end = put_entries side.producer;
+    } };
 
     ghost invariant = { λ side. IsKept (producer_capacity side.producer) (sent side.producer) side.put side.fed
         (length side.left.items) side.left.room };

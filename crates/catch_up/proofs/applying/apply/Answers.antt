@@ -30,7 +30,8 @@ pub loop-preserved : goal.loop-preserved
 loop-preserved c =
     let known : List Entry = c.loop.end.known in
     let done = c.in_ok-take_next.ensures in
-    let one : length (take 1 known) ≡ 1 = omega (arith, length-take 1 known, c.loop-test.true, c.loop.invariant.rest, c.min-count.ensures, c.look.ensures.value) in
+    let one : length (take 1 known) ≡ 1 =
+    omega (arith, length-take 1 known, c.loop-test.true, c.loop.invariant.rest, c.min-count.ensures, c.look.ensures.value) in
     record {
       so_far = so_far_then c.loop.counter 1 (take 1 known) c.args.built.now c.loop.built c.take_next.new.self c.look.new.self c.loop.end
           c.take_next.new.end c.loop.invariant.so_far one done.taken done.applied;
