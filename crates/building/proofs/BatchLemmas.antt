@@ -5,7 +5,7 @@ use Rattle.std.proofs.lemmas.Option.{same_Some}
 use Rattle.keybytes.specs.declared.fault.Fault.{Fault}
 use Rattle.side_file.specs.Ends.{TakeEnd}
 use Rattle.side_file.specs.declared.entry.Entry.{Entry}
-use Rattle.catch_up.specs.Applying.{TakesAll}
+use Rattle.catch_up.specs.Applying.{TakesKnown}
 use Rattle.catch_up.specs.Built.{BuiltValue}
 use Rattle.page_workers.specs.SpoolValue.{SpoolValue}
 use Rattle.page_workers.specs.WorkerValue.{WorkerValue}
@@ -29,7 +29,7 @@ module _
   abbrev after_batch : BuildingValue
   after_batch = record seen { sides = set ends index new_end; work = Some (record held { indexes = set held.indexes index new_it }) }
 
-  module _ (count : ℕ) (batch : BatchIsIn end.known it count new_it) (takes : TakesAll end new_end) where
+  module _ (count : ℕ) (batch : BatchIsIn end.known it count new_it) (takes : TakesKnown end new_end) where
     loaded_is : record { built = Some batch.built; applied = it.applied } ≡ it
     loaded_is = ap (λ (o : Option BuiltValue). record { built = o; applied = it.applied }) (sym batch.loaded)
 

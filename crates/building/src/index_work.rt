@@ -1,6 +1,6 @@
 ghost use Rattle.std.specs.Prelude.{◌≡◌, IsSome, IfSome, IfOk, IfErr, IsOk, OnOk};
 ghost use Rattle.unique_verdict.specs.Verdicts.{IsShort, accepts};
-ghost use Rattle.catch_up.specs.Applying.{TakesAll};
+ghost use Rattle.catch_up.specs.Applying.{TakesKnown};
 ghost use Rattle.building.specs.Batches.{BatchIsIn};
 ghost use Rattle.building.specs.Verdicts.{its_verdict};
 
@@ -57,7 +57,7 @@ impl IndexWork {
     pub(crate) fn apply_batch(&mut self, alloc: Global, end: &mut EntryEnd) -> Result<usize, Fault>
         requires { IsSome self.old.built }
         ensures applied { IfOk result (λ count. BatchIsIn end.old.known self.old count self.new) }
-        ensures taken { OnOk result (TakesAll end.old end.new) }
+        ensures taken { OnOk result (TakesKnown end.old end.new) }
         ensures ring { end.new.ring ≡ end.old.ring }
         ensures memory { IfErr result (λ fault. fault ≡ Fault.Memory) }
     {

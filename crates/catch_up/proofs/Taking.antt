@@ -8,7 +8,7 @@ use Rattle.side_file.specs.Ends.{TakeEnd, TakeEndLooked}
 use Rattle.side_file.specs.declared.entry.Entry.{Entry}
 use Rattle.visibility.specs.Applied.{apply_entries}
 use Rattle.visibility.proofs.Changes.{apply-append}
-use Rattle.catch_up.specs.Applying.{Applied, Taken, TakesAll}
+use Rattle.catch_up.specs.Applying.{Applied, Taken, TakesKnown}
 use Rattle.catch_up.specs.Batches.{changes_to}
 use Rattle.catch_up.specs.Built.{BuiltValue, told_to}
 use Rattle.catch_up.proofs.Telling.{told_to-append, changes_to-append}
@@ -89,7 +89,7 @@ batch_more n build entry before here after batch more so_far ring received known
 
 -- where none is left, all were taken
 pub batch_whole : (n build : ℕ) (before after : TakeEnd Entry) (batch : List Change) → BatchSoFar n build before after batch → length before.known ≡ n
-    → TakesAll before after × (batch ≡ changes_to build before.known)
+    → TakesKnown before after × (batch ≡ changes_to build before.known)
 batch_whole n build before after batch so_far all =
     let none : after.known ≡ [] = nil_from_length after.known (omega (
       arith,

@@ -22,7 +22,7 @@ pub record Taken (entries : List Entry) (old new : TakeEnd Entry) : Type 0 where
   pub known : IsPrefix old.known (entries ++ new.known)
 
 -- all that were known to be in the ring left it
-pub record TakesAll (old new : TakeEnd Entry) : Type 0 where
+pub record TakesKnown (old new : TakeEnd Entry) : Type 0 where
   pub taken : Taken old.known old new
   pub none_left : new.known ≡ []
 

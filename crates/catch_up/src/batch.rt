@@ -4,7 +4,7 @@ ghost use Rattle.std.specs.FinSet.{FinSet};
 ghost use Rattle.keybytes.specs.Pairs.{pair_cmp, set_of};
 ghost use Rattle.btree.specs.Changes.{changed, changed_by};
 ghost use Rattle.unique_verdict.specs.Shared.{shared_of};
-ghost use Rattle.catch_up.specs.Applying.{Applied, TakesAll};
+ghost use Rattle.catch_up.specs.Applying.{Applied, TakesKnown};
 ghost use Rattle.catch_up.specs.Batches.{change_of, changes_to};
 ghost use Rattle.catch_up.specs.Built.{Tallies};
 
@@ -20,12 +20,12 @@ use unique_verdict::Tally;
 /// how many it took. An index that keeps no tally goes down to each leaf once. [`Fault::Memory`] is also wanted for the batch and for its
 /// sort. Where it is refused the entries may be lost, and the index is of no more use.
 pub fn apply_batch(alloc: Global, built: &mut Built, end: &mut EntryEnd) -> Result<usize, Fault>
-    ensures taken { OnOk result (TakesAll end.old end.new) }
+    ensures taken { OnOk result (TakesKnown end.old end.new) }
     ensures applied { OnOk result (Applied end.old.known built.old built.new) }
     ensures count { IfOk result (λ count. count ≡ length end.old.known) }
     ensures build { built.new.build ≡ built.old.build }
     ensures unique { built.new.unique ≡ built.old.unique }
-    ensures stopped { OnErr result ((end.new ≡ end.old) ⊎ TakesAll end.old end.new) }
+    ensures stopped { OnErr result ((end.new ≡ end.old) ⊎ TakesKnown end.old end.new) }
     ensures memory { IfErr result (λ fault. fault ≡ Fault.Memory) }
 {
     let count = end.known();
@@ -37,7 +37,7 @@ pub fn apply_batch(alloc: Global, built: &mut Built, end: &mut EntryEnd) -> Resu
 
 /// Takes all entries out that the ring is known to have. Answers the changes of those of that build, in order.
 fn take_batch(alloc: Global, build: u64, end: &mut EntryEnd) -> Result<Vec<Change>, Fault>
-    ensures taken { OnOk result (TakesAll end.old end.new) }
+    ensures taken { OnOk result (TakesKnown end.old end.new) }
     ensures changes { IfOk result (λ batch. batch.items ≡ changes_to build end.old.known) }
     ensures unchanged { OnErr result (end.new ≡ end.old) }
     ensures memory { IfErr result (λ fault. fault ≡ Fault.Memory) }
