@@ -29,7 +29,7 @@ module _ (T : RattleType) (o : opened.Ghosts T.Denot) (n : named.Ghosts T.Denot)
       search (keeper.the_send, sendable) depth 20,
       (
         search (progress.the_send, sendable) depth 20,
-        (search (credit.the_send, sendable) depth 20, tt),
+        (search (credit.the_send, sendable) depth 20, (search (sendable) depth 20, tt)),
       ),
     ),
   ))
