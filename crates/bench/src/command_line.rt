@@ -45,10 +45,18 @@ With threads there are these phases:
   build          start to catch-up
 
 A writer's transaction inserts, updates and deletes a row; 15 of 100 are rolled back. `entries` are those that the changes
-make for each index: from load on they all go into the side-files. A call's time has its wait for the lock in it.
+make for each index: from load on they all go into the side-files. A call's time has its waits in it, for the lock and,
+where writers write faster than a build follows, for the build.
+
+Behind the phases it is told how many entries a second the writers made and a build applied, over all indexes (without
+--where; a build whose switch was tried more than once applied at least so many). Then how many calls of writers took up
+to so long, before the build and beside it: `all` of them, and as `lock` those that begin or commit a transaction, which
+never wait for the build.
 
 Then each index is compared with the pairs that the table itself gives; where they differ no figures are printed, and
-the exit status is 2. `peak` is the most memory that the program ever had by the end of the phase.
+the exit status is 2. Where a build with threads is given up, or a writer fails, what was measured until then is printed
+before the reason, and the exit status is 2 too. `peak` is the most memory that the program ever had by the end of the
+phase.
 
 Example: sfbench --rows 1000000 --columns int,text:20 --writes 100000";
 
@@ -149,9 +157,9 @@ static WORDS: [Word; 14] = [
     },
     Word {
         name: "pause",
-        help: "How many microseconds a writer waits between its transactions; a build never catches up with writers that don't wait",
+        help: "How many microseconds a writer waits between its transactions",
         value: Some("P"),
-        default: Some("100"),
+        default: Some("0"),
         parser: ValueParser::Signed(0, 4_294_967_295),
         ..FLAG
     },
@@ -165,7 +173,8 @@ static WORDS: [Word; 14] = [
     },
     Word {
         name: "csv",
-        help: "Prints the figures as comma-separated records: phase, seconds, rows, rows_a_second, peak_kib",
+        help: "Prints the figures as comma-separated records: phase, seconds, rows, rows_a_second, peak_kib, with writers more, and behind them \
+               records `rate` and `calls`",
         ..FLAG
     },
 ];

@@ -1,6 +1,7 @@
 ghost use Rattle.std.specs.Prelude.{◌≡◌, ◌≤◌, ◌<◌};
 
 use crate::timer::nanos_between;
+use crew::CaughtUp;
 use std::sync::atomic::{AtomicU64, Ordering};
 use std::time::{Clock, Instant};
 
@@ -25,6 +26,10 @@ pub struct Course {
     pub step: AtomicU64,
     /// How many turns the build took.
     pub turns: AtomicU64,
+    /// How often the build has tried its switch.
+    pub tries: AtomicU64,
+    /// How many entries of all indexes waited when the build began to catch up; 0 where it tried its switch more than once, when that isn't told.
+    pub waited: AtomicU64,
     /// How many workers have sealed.
     pub sealed: AtomicU64,
     /// Not 0 once the writers are to stop.
@@ -47,6 +52,8 @@ impl Course {
             since,
             step: AtomicU64::new(0),
             turns: AtomicU64::new(0),
+            tries: AtomicU64::new(0),
+            waited: AtomicU64::new(0),
             sealed: AtomicU64::new(0),
             is_over: AtomicU64::new(0),
             begun: [
@@ -75,5 +82,25 @@ impl Course {
             Err(_) => 0,
         };
         self.begun[place].store(nanos, Ordering::SeqCst);
+    }
+
+    /// When the stage at that place ended: when the next one began to which the run came.
+    pub fn end_of(&self, place: usize) -> u64 {
+        for stage in place..STAGES {
+            let nanos = self.begun[stage + 1].load(Ordering::SeqCst);
+            if nanos > 0 {
+                return nanos;
+            }
+        }
+        0
+    }
+
+    /// The build has caught up.
+    pub fn note_caught_up(&self, caught_up: CaughtUp) {
+        let CaughtUp { waited, turns } = caught_up;
+        self.turns.store(turns as u64, Ordering::SeqCst);
+        if self.tries.load(Ordering::SeqCst) == 1 {
+            self.waited.store(waited as u64, Ordering::SeqCst);
+        }
     }
 }

@@ -1,5 +1,7 @@
 ghost use Rattle.std.specs.Prelude.{◌≡◌, ◌*◌, ◌/◌, MatchOption};
 
+use crate::failure::Failure;
+use crate::histogram::Waits;
 use crate::span::Span;
 use std::alloc::AllocError;
 
@@ -17,6 +19,9 @@ pub struct Line {
     pub peak: Option<u128>,
     /// What writers met in it.
     pub met: Span,
+    /// How many entries of all indexes writers made in it, and how many the build applied, where that is told.
+    pub made: Option<u64>,
+    pub applied: Option<u64>,
     /// Whether the run had the phase.
     pub is_told: bool,
 }
@@ -36,6 +41,8 @@ impl Line {
         rows: 0,
         peak: None,
         met: Span::NONE,
+        made: None,
+        applied: None,
         is_told: false,
     };
 }
@@ -46,6 +53,11 @@ pub struct Figures {
     pub(crate) lines: [Line; LINES],
     /// How many pages the spools leased at most, each counted for itself; with threads how many turns came before the switch.
     pub(crate) count: u64,
+    /// How long calls of writers took before the build, and from its start on.
+    pub(crate) before: Waits,
+    pub(crate) beside: Waits,
+    /// Why the run ended early, if it did.
+    pub(crate) failure: Option<Failure>,
 }
 
 /// How many a second; of a time that the clock can't tell, nothing.

@@ -3,6 +3,7 @@
 use crate::condition::Condition;
 use crate::failure::Failure;
 use crate::figures::{Figures, Line, rate};
+use crate::further::print_further;
 use crate::options::Options;
 use crate::values::Values;
 use csv::{QuoteStyle, Writer, WriterBuilder};
@@ -178,7 +179,7 @@ const NAME_WIDTH: usize = 16;
 /// A phase that took fewer nanoseconds is told without its rows a second, which would say nothing.
 const LEAST_NANOS: u64 = 1_000_000;
 
-/// Prints the figures, a line a phase.
+/// Prints the figures, a line a phase, and what is told of writers behind them. Of a run that failed the error is why.
 pub fn print<W: Write + Drop>(
     out: W,
     alloc: Global,
@@ -187,9 +188,10 @@ pub fn print<W: Write + Drop>(
 ) -> Result<(), Failure> {
     let (mut out, mut text) = (out, String::new(alloc));
     let mut builder = WriterBuilder::new();
+    builder.flexible(true);
     let mut is_printed = true;
     if !options.csv {
-        is_printed = add_asked(&mut text, options, figures.count).is_ok()
+        is_printed = add_asked(&mut text, options, figures).is_ok()
             && out.write_all(text.as_str().as_bytes()).is_ok();
         builder.delimiter(b' ').quote_style(QuoteStyle::Never);
     }
@@ -200,14 +202,20 @@ pub fn print<W: Write + Drop>(
             is_printed &= print_line(&mut writer, &mut text, options, Some(line));
         }
     }
-    if is_printed && writer.flush().is_ok() {
-        return Ok(());
+    if options.writers > 0 {
+        is_printed &= print_further(&mut writer, &mut text, options, figures);
     }
-    Err(Failure::Other("the figures can't be printed"))
+    if !is_printed || writer.flush().is_err() {
+        return Err(Failure::Other("the figures can't be printed"));
+    }
+    match figures.failure {
+        None => Ok(()),
+        Some(failure) => Err(failure),
+    }
 }
 
 /// What was asked for, and what is counted of the whole run, which has no figures where an index differs from the table.
-fn add_asked(text: &mut String, options: &Options, count: u64) -> Result<(), AllocError> {
+fn add_asked(text: &mut String, options: &Options, figures: &Figures) -> Result<(), AllocError> {
     let Options {
         rows,
         indexes,
@@ -220,6 +228,14 @@ fn add_asked(text: &mut String, options: &Options, count: u64) -> Result<(), All
     } = options;
     write!(text, "{rows} rows of ")?;
     add_columns(text, options)?;
+    writeln!(
+        text,
+        ", indexes {indexes}, workers {workers}, writes {writes}, sessions {sessions}, writers {writers}, seed {seed}"
+    )?;
+    if figures.failure.is_some() {
+        return text.push_str("the run failed; what was measured until then:\n");
+    }
+    let count = figures.count;
     let counted = if options.threads {
         "turns before the switch"
     } else {
@@ -227,8 +243,7 @@ fn add_asked(text: &mut String, options: &Options, count: u64) -> Result<(), All
     };
     writeln!(
         text,
-        ", indexes {indexes}, workers {workers}, writes {writes}, sessions {sessions}, writers {writers}, seed {seed}\n\
-        {count} {counted}; each index has the pairs that the table gives"
+        "{count} {counted}; each index has the pairs that the table gives"
     )
 }
 

@@ -1,17 +1,17 @@
 //! A run in threads: the table is filled, the writers begin, the build goes on beside them, and each index is compared with the table.
-ghost use Rattle.std.specs.Prelude.{◌≡◌};
+ghost use Rattle.std.specs.Prelude.{◌≡◌, ◌<◌};
 
 use crate::build::{Work, parts};
 use crate::compare::compared;
-use crate::course::{Course, NAMES, STAGES, START};
+use crate::course::{Course, NAMES, SCAN, STAGES, START};
 use crate::done::Done;
 use crate::failure::Failure;
 use crate::figures::{Figures, LINES, Line};
 use crate::options::Options;
 use crate::peak;
 use crate::sessions::by_sessions;
+use crate::span::Span;
 use crate::subject::are_ready;
-use crate::timer::told;
 use crate::watch::Watch;
 use builder_core::Ends;
 use crew::{Opened, Table, TableParts, build};
@@ -63,7 +63,7 @@ where
     compared(&mut closed.live, told)
 }
 
-/// Fills the table, and builds on it beside the writers then.
+/// Fills the table, and builds on it beside the writers then. Where the build or a writer fails it tells what was measured until then.
 fn measure<T, R>(
     rt: &R,
     alloc: Global,
@@ -92,8 +92,9 @@ where
         course,
         filled.on_page,
     );
-    let figures = figures_of(options, course, &filled, &met, peak::read(rt));
-    told(built.err().or(met.failure), figures)
+    let failure = built.err().or(met.failure);
+    let peak = peak::read(rt);
+    Ok(figures_of(options, course, &filled, &met, failure, peak))
 }
 
 /// The writers write in threads of their own until the build is done. Where no thread can be made they come last, and find that all is over.
@@ -147,47 +148,40 @@ where
     course.is_over.store(1, Ordering::SeqCst);
     match &told {
         Ok(report) => {
-            let turns = report.caught_up.turns as u64;
-            course.turns.store(turns, Ordering::SeqCst);
+            course.note_caught_up(report.caught_up);
             are_ready(report.verdicts.as_slice())
         }
         Err(fault) => Err(Failure::Refused("the build", fault.0)),
     }
 }
 
-/// The fill, the stages and the build; there is no stage before the build where nobody writes.
+/// The fill, the stages and the build. There is no stage before the build where nobody writes, and none to which a run that failed didn't come.
 fn figures_of(
     options: &Options,
     course: &Course,
     filled: &Done,
     met: &Done,
+    failure: Option<Failure>,
     peak: Option<u128>,
 ) -> Figures {
-    let of_all = Line {
+    let rows = u64::from(options.rows);
+    let mut lines = [Line::NONE; LINES];
+    lines[0] = Line {
         name: "fill",
         spent: filled.filled,
-        rows: u64::from(options.rows),
+        rows,
         is_told: true,
         ..Line::NONE
     };
-    let mut lines = [Line::NONE; LINES];
-    lines[0] = of_all;
     let mut build = Line {
         name: "build",
-        spent: 0,
+        rows: if failure.is_none() { rows } else { 0 },
         peak,
-        ..of_all
+        is_told: true,
+        ..Line::NONE
     };
     for place in 0..STAGES {
-        let begun = course.begun[place].load(Ordering::SeqCst);
-        let ended = course.begun[place + 1].load(Ordering::SeqCst);
-        let line = Line {
-            name: NAMES[place],
-            spent: ended.saturating_sub(begun),
-            met: met.met[place],
-            is_told: place > 0 || options.writers > 0,
-            ..Line::NONE
-        };
+        let line = line_of(options, course, place, met.met[place]);
         if place > 0 {
             build.spent = build.spent.saturating_add(line.spent);
             build.met = build.met.and(line.met);
@@ -195,8 +189,46 @@ fn figures_of(
         lines[place + 1] = line;
     }
     lines[STAGES + 1] = build;
+    if failure.is_none() {
+        lines[STAGES].applied = applied(course, &lines);
+    }
     Figures {
         lines,
         count: course.turns.load(Ordering::SeqCst),
+        before: met.before,
+        beside: met.beside,
+        failure,
     }
+}
+
+/// The stage at that place, in which so much was met.
+fn line_of(options: &Options, course: &Course, place: usize, met: Span) -> Line
+    requires { place < 5 }
+{
+    let begun = course.begun[place].load(Ordering::SeqCst);
+    Line {
+        name: NAMES[place],
+        spent: course.end_of(place).saturating_sub(begun),
+        met,
+        made: made(options, place as u64, met.entries),
+        is_told: begun > 0 && (place > 0 || options.writers > 0),
+        ..Line::NONE
+    }
+}
+
+/// How many entries of all indexes writers made in a stage, so many for each. How many meet a condition isn't known.
+fn made(options: &Options, stage: u64, entries: u64) -> Option<u64> {
+    if stage < SCAN || options.writers == 0 || options.condition.is_some() {
+        return None;
+    }
+    Some(entries.saturating_mul(u64::from(options.indexes)))
+}
+
+/// How many entries a build applied while it caught up: those that waited then, and all that were made since. Where it isn't told how many waited
+/// it was at least what was made while pairs were put in order.
+fn applied(course: &Course, lines: &[Line; LINES]) -> Option<u64> {
+    let loading = lines[STAGES - 1].made?;
+    let catching_up = lines[STAGES].made?;
+    let waited = course.waited.load(Ordering::SeqCst).max(loading);
+    Some(waited.saturating_add(catching_up))
 }

@@ -7,6 +7,7 @@ use crate::dealing::part_of;
 use crate::failure::Failure;
 use crate::figures::{Figures, LINES, Line};
 use crate::hand::{Hand, ROWS_OF_A_TRANSACTION};
+use crate::histogram::Waits;
 use crate::options::Options;
 use crate::peak;
 use crate::phase::{PHASES, Phase};
@@ -107,6 +108,9 @@ fn run_over<'a, C: Subject>(
     let figures = Figures {
         lines: run.lines,
         count: 0,
+        before: Waits::NONE,
+        beside: Waits::NONE,
+        failure: None,
     };
     told(run.hand.timer.failure, figures)
 }

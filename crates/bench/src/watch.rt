@@ -27,8 +27,13 @@ impl<R: Clock> Gate for Watch<'_, R> {
                     course.go_to(self.rt, LOAD);
                 }
             }
-            Point::Try { n: 1 } => course.go_to(self.rt, CATCH_UP),
-            Point::Loaded { .. } | Point::Try { .. } => {}
+            Point::Try { n } => {
+                course.tries.store(u64::from(n), Ordering::SeqCst);
+                if n == 1 {
+                    course.go_to(self.rt, CATCH_UP);
+                }
+            }
+            Point::Loaded { .. } => {}
         }
     }
 }

@@ -123,6 +123,7 @@ impl<'h, 'c, R: Wait + Clock, D: Desk> Writer<'h, 'c, R, D> {
 
     /// Does an event whose change makes so many entries, and notes how long it took. Where it is refused, as is expected, nothing is answered.
     fn call(&mut self, step: &'static str, event: Event, entries: u64) -> Option<u64> {
+        let is_write = !matches!(event, Event::Begin | Event::Commit { .. });
         let told = self.hand.desk.answer(step, event);
         let spent = self.hand.lap();
         let (number, entries) = match told {
@@ -134,13 +135,20 @@ impl<'h, 'c, R: Wait + Clock, D: Desk> Writer<'h, 'c, R, D> {
             }
         };
         self.entries = self.entries.saturating_add(entries);
-        self.note(Span::call(spent, entries));
+        let step = self.step();
+        self.done.note(step, Span::call(spent, entries));
+        self.done.count(step, spent, is_write);
         number
     }
 
     /// Notes what was met in the step in which the run is.
     pub fn note(&mut self, met: Span) {
-        let step = self.course.step.load(Ordering::SeqCst);
+        let step = self.step();
         self.done.note(step, met);
+    }
+
+    /// The step in which the run is.
+    fn step(&self) -> u64 {
+        self.course.step.load(Ordering::SeqCst)
     }
 }

@@ -122,12 +122,17 @@ const BESIDE: &[&str] = &[
     "--sessions=3",
     "--writers",
     "2",
+    "--pause",
+    "100",
     "--csv",
 ];
 
-/// The phases of a run with writers in threads, behind the names of the fields.
+/// The phases of a run with writers in threads, behind the names of the fields; behind them the rates of three, and how many calls are in each of nine
+/// bins, each with names of fields before them.
 const STAGES: Measured = Measured::Records(&[
-    "phase", "fill", "before", "start", "scan", "load", "catch-up", "build",
+    "phase", "fill", "before", "start", "scan", "load", "catch-up", "build", "rate", "rate",
+    "rate", "rate", "calls", "calls", "calls", "calls", "calls", "calls", "calls", "calls",
+    "calls", "calls",
 ]);
 
 impl Measured {
