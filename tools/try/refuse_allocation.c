@@ -5,6 +5,8 @@
  *     REFUSE_AT=N REFUSE_REPORT=FILE LD_PRELOAD=./refuse_allocation.so PROGRAM ...
  *
  * The Nth allocation that is asked for from `main` on, by whichever thread, gets no memory; with N 0 or not set none is refused.
+ * With REFUSE_FIRST_THREAD=1 only those count that the first thread asks for once it has started another one: in a race of `sfbuild`
+ * these are the build's, but for its workers', and the checks' behind it.
  * Counted are malloc, calloc, their aligned forms, and each realloc that asks for more than its block has room for.
  * When the program ends by itself FILE gets one line, `allocations M refused R`: how many were asked for, and how many of them, 0 or 1,
  * were refused. A program that is killed by a signal writes none.
@@ -14,6 +16,7 @@
 #include <errno.h>
 #include <fcntl.h>
 #include <malloc.h>
+#include <pthread.h>
 #include <stdatomic.h>
 #include <stdio.h>
 #include <stdlib.h>
@@ -31,6 +34,10 @@ static atomic_ulong refused;
 static atomic_int is_counting;
 static atomic_int is_reported;
 static unsigned long refuse_at;
+/* Whether only the first thread's allocations count, once it isn't alone any more. */
+static int counts_first_only;
+static atomic_int has_threads;
+static __thread int is_first __attribute__((tls_model("initial-exec")));
 
 typedef int main_function(int count, char **words, char **environment);
 static main_function *program_main;
@@ -38,7 +45,10 @@ static main_function *program_main;
 /* Whether the allocation that is asked for now is the one to refuse. */
 static int is_refused(void)
 {
-    if (!atomic_load_explicit(&is_counting, memory_order_relaxed) || atomic_fetch_add(&asked_for, 1) + 1 != refuse_at) {
+    if (!atomic_load_explicit(&is_counting, memory_order_relaxed) || (counts_first_only && !(is_first && atomic_load(&has_threads)))) {
+        return 0;
+    }
+    if (atomic_fetch_add(&asked_for, 1) + 1 != refuse_at) {
         return 0;
     }
     atomic_fetch_add(&refused, 1);
@@ -82,6 +92,14 @@ int posix_memalign(void **block, size_t alignment, size_t size)
     return 0;
 }
 
+int pthread_create(pthread_t *thread, const pthread_attr_t *how, void *(*start)(void *), void *with)
+{
+    int (*create)(pthread_t *, const pthread_attr_t *, void *(*)(void *), void *) = dlsym(RTLD_NEXT, "pthread_create");
+    int told = create(thread, how, start, with);
+    atomic_store(&has_threads, 1);
+    return told;
+}
+
 /* Writes the line of the report, once, and without an allocation. */
 static void report(void)
 {
@@ -117,6 +135,8 @@ static int counted_main(int count, char **words, char **environment)
 {
     const char *place = getenv("REFUSE_AT");
     refuse_at = place == NULL ? 0 : strtoul(place, NULL, 10);
+    counts_first_only = getenv("REFUSE_FIRST_THREAD") != NULL;
+    is_first = 1;
     atomic_store(&is_counting, 1);
     return program_main(count, words, environment);
 }
