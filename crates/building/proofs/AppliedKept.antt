@@ -15,7 +15,7 @@ use Rattle.catch_up.specs.Applying.{Applied}
 use Rattle.catch_up.specs.Built.{BuiltValue, told_to}
 use Rattle.catch_up.proofs.Telling.{told_to-append}
 use Rattle.page_workers.specs.SpoolValue.{SpoolValue}
-use Rattle.page_workers.specs.TakeEnd.{TakeEnd}
+use Rattle.side_file.specs.Ends.{TakeEnd}
 use Rattle.page_workers.specs.WorkerValue.{WorkerValue}
 use Rattle.building.specs.BuildingValue.{IndexValue, IsUnloaded, WorkValue}
 use Rattle.building.specs.Keeping.{ArePairsOf, IsIndexOf, KeepsWork}

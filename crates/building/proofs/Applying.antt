@@ -5,11 +5,8 @@ use Rattle.std.proofs.lemmas.Option.{same_Some}
 use Rattle.building.specs.BuildingValue.{BuildingValue, WorkValue, IndexValue, with_index, with_pairs}
 use Rattle.std.specs.List.{slice_get}
 use Rattle.building.specs.Working.{IsTakingEntries, CanApply, HasApplied, CountsNoMore, HasSeenEntries, MayTakeMemoryFor, StopsApplying}
-use Rattle.std.proofs.lemmas.List.{append-nil, nil_from_length, take-append-le, drop-append-le, length-map, map-set}
+use Rattle.std.proofs.lemmas.List.{append-nil, nil_from_length, take-append-le, drop-append-le}
 use Rattle.std.proofs.Math.Seq.{take-append_seam, drop-append_seam}
-use Rattle.std.specs.declared.alloc.Global.{Global}
-use Rattle.rtrb.specs.declared.consumer.Consumer.{Consumer}
-use Rattle.rtrb.specs.Ring.{known_items}
 use Rattle.keybytes.specs.Pairs.{AreOrdered, set_of}
 use Rattle.side_file.specs.declared.entry.Entry.{Entry}
 use Rattle.visibility.specs.Applied.{apply_entries}
@@ -17,13 +14,13 @@ use Rattle.visibility.proofs.Changes.{apply-append}
 use Rattle.catch_up.specs.Applying.{Applied, NextMayWant, Taken}
 use Rattle.catch_up.specs.Built.{BuiltValue, MayWant, told_to}
 use Rattle.catch_up.proofs.Telling.{told_to-append}
-use Rattle.page_workers.specs.TakeEnd.{TakeEnd, take_end}
+use Rattle.side_file.specs.Ends.{TakeEnd}
 use Rattle.keybytes.specs.declared.pair.Pair.{Pair}
 use Rattle.page_workers.specs.SpoolValue.{SpoolValue}
 use Rattle.page_workers.specs.WorkerValue.{WorkerValue}
 use Rattle.building.specs.Keeping.{KeepsWork}
 use Rattle.building.proofs.AppliedKept.{applied_kept}
-use Rattle.page_workers.proofs.Places.{at_index, below, here_set, map_at, set_same}
+use Rattle.page_workers.proofs.Places.{at_index, below, here_set, set_same}
 use Rattle.std.specs.Prelude.{is_some}
 use Rattle.std.proofs.lemmas.Bool.{false≢true}
 
@@ -76,22 +73,22 @@ first_behind (suc n) (y ∷ ys) more x less at = first_behind n ys more x (omega
 
 -- the entry that the ring has next is the first that was seen in it
 pub next_seen :
-    {P : Type 0} (built after : BuiltValue) (ring ring_new : Consumer Entry Global P) (entries : List Entry) → Taken entries ring ring_new → Applied entries built after
-    → length entries < 1 → 1 ≤ length (known_items ring) → NextMayWant after ring_new
-    → (next : Entry) × (slice_get (take_end ring).known 0 ≡ Some next) × MayWant built next
+    (built after : BuiltValue) (ring ring_new : TakeEnd Entry) (entries : List Entry) → Taken entries ring ring_new → Applied entries built after
+    → length entries < 1 → 1 ≤ length ring.known → NextMayWant after ring_new
+    → (next : Entry) × (slice_get ring.known 0 ≡ Some next) × MayWant built next
 next_seen built after ring ring_new entries taken applied few seen next =
-    by_known (known_items ring) refl seen where
+    by_known ring.known refl seen where
       none : entries ≡ []
       none = nil_from_length entries (omega (arith, few))
 
       its : MayWant built next.0
       its = (next.2.0 ∙ applied.build, elim next.2.1 [ inl puts ↦ inl puts | inr unique ↦ inr (sym applied.unique ∙ unique) ])
 
-      by_known : (known : List Entry) → known_items ring ≡ known → 1 ≤ length known → (e : Entry) × (slice_get (known_items ring) 0 ≡ Some e) × MayWant built e
+      by_known : (known : List Entry) → ring.known ≡ known → 1 ≤ length known → (e : Entry) × (slice_get ring.known 0 ≡ Some e) × MayWant built e
       by_known [] is some = absurd (omega (arith, some))
       by_known (e ∷ es) is some =
           let same : e ∷ (es ++ taken.known.0) ≡ next.0 ∷ next.1.0 =
-          ap (λ (ks : List Entry). ks ++ taken.known.0) (sym is) ∙ taken.known.1 ∙ ap (λ (xs : List Entry). xs ++ known_items ring_new) none ∙ sym next.1.1 in
+          ap (λ (ks : List Entry). ks ++ taken.known.0) (sym is) ∙ taken.known.1 ∙ ap (λ (xs : List Entry). xs ++ ring_new.known) none ∙ sym next.1.1 in
           let first : e ≡ next.0 = cc in
           (e, ap (λ (ks : List Entry). slice_get ks 0) is, subst (MayWant built) (sym first) its)
 
@@ -101,17 +98,17 @@ index_with work index pairs applied = record { built = Some (with_pairs work ind
 
 -- so many entries were applied
 pub has_applied :
-    {P : Type 0} (index : ℕ) (old new : BuildingValue) (taking : IsTakingEntries index old) (ring ring_new : Consumer Entry Global P) (entries : List Entry)
-    (count : ℕ) (after : BuiltValue) → taking.built ≡ with_pairs taking.work index taking.built.pairs → taking.end ≡ take_end ring → Taken entries ring ring_new → Applied entries taking.built after → AreOrdered after.pairs
-    → count ≡ length entries → count ≤ length (take_end ring).known
+    (index : ℕ) (old new : BuildingValue) (taking : IsTakingEntries index old) (ring ring_new : TakeEnd Entry) (entries : List Entry)
+    (count : ℕ) (after : BuiltValue) → taking.built ≡ with_pairs taking.work index taking.built.pairs → taking.end ≡ ring → Taken entries ring ring_new → Applied entries taking.built after → AreOrdered after.pairs
+    → count ≡ length entries → count ≤ length ring.known
     → new ≡ record old {
-      sides = set old.sides index (take_end ring_new);
+      sides = set old.sides index ring_new;
       work = Some (record taking.work { indexes = set taking.work.indexes index (record { built = Some after; applied = taking.it.applied + count }) });
     } → HasApplied index old count new
 has_applied index old new taking ring ring_new entries count after own side taken applied ordered many few is =
     let prefix = taken.known in
-    let first = first_taken entries (take_end ring).known (take_end ring_new).known prefix.0 prefix.1 (omega (arith, many, few)) in
-    let entries_are : entries ≡ take count (take_end ring).known = first.0 ∙ ap (λ n. take n (take_end ring).known) (sym many) in
+    let first = first_taken entries ring.known ring_new.known prefix.0 prefix.1 (omega (arith, many, few)) in
+    let entries_are : entries ≡ take count ring.known = first.0 ∙ ap (λ n. take n ring.known) (sym many) in
     record {
       taking = taking;
       own = own;
@@ -119,15 +116,15 @@ has_applied index old new taking ring ring_new entries count after own side take
       applied = applied.pairs
           ∙ ap (λ es. apply_entries (told_to taking.built.build es) (set_of taking.built.pairs)) (entries_are ∙ ap (λ (e : TakeEnd Entry). take count e.known) (sym side));
       ordered = ordered;
-      end = take_end ring_new;
+      end = ring_new;
       ring = taken.ring ∙ ap (λ (e : TakeEnd Entry). e.ring) (sym side);
-      received = taken.received ∙ ap (λ es. (take_end ring).received ++ es) entries_are
+      received = taken.received ∙ ap (λ es. ring.received ++ es) entries_are
           ∙ ap (λ (e : TakeEnd Entry). e.received ++ take count e.known) (sym side);
       more = prefix.0;
-      known = first.1 ∙ ap (λ n. drop n (take_end ring).known ++ prefix.0) (sym many)
+      known = first.1 ∙ ap (λ n. drop n ring.known ++ prefix.0) (sym many)
           ∙ ap (λ (e : TakeEnd Entry). drop count e.known ++ prefix.0) (sym side);
       left = is ∙ ap₂ (λ (n : ℕ) (tallied : Bool). record old {
-        sides = set old.sides index (take_end ring_new);
+        sides = set old.sides index ring_new;
         work = Some (record taking.work {
           indexes = set taking.work.indexes index
               (record { built = Some (record { build = n; unique = tallied; pairs = after.pairs }); applied = taking.it.applied + count });
@@ -137,9 +134,9 @@ has_applied index old new taking ring ring_new entries count after own side take
 
 -- the same, where the index and the end of its ring were found in their places
 module _
-    {P : Type 0} (index : ℕ) (old seen : BuildingValue) (work held : WorkValue) (it : IndexValue) (built : BuiltValue) (applied : ℕ)
-    (ends : List (Consumer Entry Global P)) (ring : Consumer Entry Global P) (same : seen ≡ old) (runs : seen.work ≡ Some work) (is : held ≡ work)
-    (it_at : it ≡ get_or held.indexes index it) (it_is : record { built = Some built; applied = applied } ≡ it) (sides : seen.sides ≡ map take_end ends)
+    (index : ℕ) (old seen : BuildingValue) (work held : WorkValue) (it : IndexValue) (built : BuiltValue) (applied : ℕ)
+    (ends : List (TakeEnd Entry)) (ring : TakeEnd Entry) (same : seen ≡ old) (runs : seen.work ≡ Some work) (is : held ≡ work)
+    (it_at : it ≡ get_or held.indexes index it) (it_is : record { built = Some built; applied = applied } ≡ it) (sides : seen.sides ≡ ends)
     (ring_at : ring ≡ get_or ends index ring) (taking : IsTakingEntries index old) where
   work_is : taking.work ≡ held
   work_is = same_Some taking.work held (sym taking.runs ∙ ap (λ (b : BuildingValue). b.work) (sym same) ∙ runs ∙ ap Some (sym is))
@@ -150,16 +147,16 @@ module _
       (sym taking.there ∙ ap (λ (w : WorkValue). slice_get w.indexes index) work_is
       ∙ at_index held.indexes index it it_at (subst (λ (w : WorkValue). index < length w.indexes) work_is (below taking.work.indexes index taking.it taking.there)))
 
-  its_sides : old.sides ≡ map take_end ends
+  its_sides : old.sides ≡ ends
   its_sides = ap (λ (b : BuildingValue). b.sides) (sym same) ∙ sides
 
-  pub end_is : taking.end ≡ take_end ring
+  pub end_is : taking.end ≡ ring
   end_is =
-      let less : index < length (map take_end ends) =
+      let less : index < length ends =
       subst (λ (es : List (TakeEnd Entry)). index < length es) its_sides (below old.sides index taking.end taking.at) in
-      same_Some taking.end (take_end ring)
+      same_Some taking.end ring
       (sym taking.at ∙ ap (λ (es : List (TakeEnd Entry)). slice_get es index) its_sides
-      ∙ map_at take_end ends index ring (at_index ends index ring ring_at (omega (arith, less, length-map ends take_end))))
+      ∙ at_index ends index ring ring_at less)
 
   built_is : taking.built ≡ built
   built_is = same_Some taking.built built (sym taking.loaded ∙ ap (λ (i : IndexValue). i.built) (index_is ∙ sym it_is))
@@ -168,25 +165,25 @@ module _
   applied_is = ap (λ (i : IndexValue). i.applied) (index_is ∙ sym it_is)
 
   pub applied_next :
-      taking.built ≡ with_pairs taking.work index taking.built.pairs → (ring_new : Consumer Entry Global P) (entries : List Entry) (count sum : ℕ) (after : BuiltValue) → Taken entries ring ring_new → Applied entries built after
-      → AreOrdered after.pairs → count ≡ length entries → count ≤ length (take_end ring).known → sum ≡ applied + count
+      taking.built ≡ with_pairs taking.work index taking.built.pairs → (ring_new : TakeEnd Entry) (entries : List Entry) (count sum : ℕ) (after : BuiltValue) → Taken entries ring ring_new → Applied entries built after
+      → AreOrdered after.pairs → count ≡ length entries → count ≤ length ring.known → sum ≡ applied + count
       → HasApplied index old count (record seen {
-        sides = map take_end (set ends index ring_new);
+        sides = set ends index ring_new;
         work = Some (record held { indexes = set held.indexes index (record { built = Some after; applied = sum }) });
       })
   applied_next own ring_new entries count sum after taken done ordered many few total =
       has_applied index old _ taking ring ring_new entries count after own end_is taken (subst (λ (b : BuiltValue). Applied entries b after) (sym built_is) done) ordered many few
-      (ap (λ (b : BuildingValue). with_both b (map take_end (set ends index ring_new)) held sum) same
+      (ap (λ (b : BuildingValue). with_both b (set ends index ring_new) held sum) same
       ∙ ap (λ (es : List (TakeEnd Entry)). with_both old es held sum)
-      (map-set take_end ends index ring_new ∙ ap (λ (es : List (TakeEnd Entry)). set es index (take_end ring_new)) (sym its_sides))
-      ∙ ap (λ (v : WorkValue). with_both old (set old.sides index (take_end ring_new)) v sum) (sym work_is)
-      ∙ ap (with_both old (set old.sides index (take_end ring_new)) taking.work) (total ∙ ap (λ n. n + count) (sym applied_is))) where
+      (ap (λ (es : List (TakeEnd Entry)). set es index ring_new) (sym its_sides))
+      ∙ ap (λ (v : WorkValue). with_both old (set old.sides index ring_new) v sum) (sym work_is)
+      ∙ ap (with_both old (set old.sides index ring_new) taking.work) (total ∙ ap (λ n. n + count) (sym applied_is))) where
         with_both : BuildingValue → List (TakeEnd Entry) → WorkValue → ℕ → BuildingValue
         with_both b es v n = record b { sides = es; work = Some (record v { indexes = set v.indexes index (record { built = Some after; applied = n }) }) }
 
   -- where it wanted memory, the next that is seen may take some
   pub needed_next :
-      (ring_new : Consumer Entry Global P) (entries : List Entry) (after : BuiltValue) → Taken entries ring ring_new → Applied entries built after
+      (ring_new : TakeEnd Entry) (entries : List Entry) (after : BuiltValue) → Taken entries ring ring_new → Applied entries built after
       → length entries < 1 → 1 ≤ length taking.end.known → NextMayWant after ring_new → MayTakeMemoryFor index 0 old
   needed_next ring_new entries after taken done few seen wants =
       let next = next_seen built after ring ring_new entries taken done few (subst (λ (e : TakeEnd Entry). 1 ≤ length e.known) end_is seen) wants in
@@ -199,22 +196,20 @@ module _
 
   -- and the work keeps what it keeps
   pub kept_next :
-      (workers : List WorkerValue) (spools : List SpoolValue) (ring_new : Consumer Entry Global P) (entries : List Entry) (sum : ℕ) (after : BuiltValue)
-      → Taken entries ring ring_new → Applied entries built after → AreOrdered after.pairs → KeepsWork workers (map take_end ends) spools seen.work
-      → KeepsWork workers (map take_end (set ends index ring_new)) spools
+      (workers : List WorkerValue) (spools : List SpoolValue) (ring_new : TakeEnd Entry) (entries : List Entry) (sum : ℕ) (after : BuiltValue)
+      → Taken entries ring ring_new → Applied entries built after → AreOrdered after.pairs → KeepsWork workers ends spools seen.work
+      → KeepsWork workers (set ends index ring_new) spools
       (Some (record held { indexes = set held.indexes index (record { built = Some after; applied = sum }) }))
   kept_next workers spools ring_new entries sum after taken done ordered kept =
       let there : slice_get held.indexes index ≡ Some it =
       at_index held.indexes index it it_at (subst (λ (w : WorkValue). index < length w.indexes) work_is (below taking.work.indexes index taking.it taking.there)) in
-      let less : index < length (map take_end ends) =
+      let less : index < length ends =
       subst (λ (es : List (TakeEnd Entry)). index < length es) its_sides (below old.sides index taking.end taking.at) in
-      let its_end : slice_get (map take_end ends) index ≡ Some (take_end ring) =
-      map_at take_end ends index ring (at_index ends index ring ring_at (omega (arith, less, length-map ends take_end))) in
-      subst (λ (sides : List (TakeEnd Entry)). KeepsWork workers sides spools
-      (Some (record held { indexes = set held.indexes index (record { built = Some after; applied = sum }) }))) (sym (map-set take_end ends index ring_new))
-      (applied_kept workers (map take_end ends) spools held index it there built after (ap (λ (i : IndexValue). i.built) (sym it_is)) (take_end ring) (take_end ring_new)
+      let its_end : slice_get ends index ≡ Some ring =
+      at_index ends index ring ring_at less in
+      applied_kept workers ends spools held index it there built after (ap (λ (i : IndexValue). i.built) (sym it_is)) ring ring_new
       its_end entries taken.received done ordered sum
-      (subst (λ (o : Option WorkValue). KeepsWork workers (map take_end ends) spools o) (runs ∙ ap Some (sym is)) kept))
+      (subst (λ (o : Option WorkValue). KeepsWork workers ends spools o) (runs ∙ ap Some (sym is)) kept)
 
 module _ (index : ℕ) (old mid : BuildingValue) (m : ℕ) (first : HasApplied index old m mid) where
   -- the index as these entries leave it

@@ -8,7 +8,7 @@ use Rattle.side_file.specs.Ends.{RingId}
 use Rattle.side_file.specs.declared.entry.Entry.{Entry}
 use Rattle.page_workers.specs.IntakeValue.{IntakeValue}
 use Rattle.page_workers.specs.SpoolValue.{SpoolValue}
-use Rattle.page_workers.specs.TakeEnd.{TakeEnd}
+use Rattle.side_file.specs.Ends.{TakeEnd}
 use Rattle.page_workers.specs.WorkerValue.{WorkerValue}
 use Rattle.building.specs.BuildingValue.{intakes}
 use Rattle.building.specs.Holding.{all_spools, workers_spools}

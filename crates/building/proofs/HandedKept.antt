@@ -12,7 +12,7 @@ use Rattle.run_spool.specs.Spools.{AreSorted}
 use Rattle.run_maker.specs.Making.{spec_at}
 use Rattle.page_workers.specs.Holding.{HoldsOpen, HoldsPairs}
 use Rattle.page_workers.specs.SpoolValue.{SpoolValue, runs_of}
-use Rattle.page_workers.specs.TakeEnd.{TakeEnd}
+use Rattle.side_file.specs.Ends.{TakeEnd}
 use Rattle.page_workers.specs.Taking.{received_images, unsealed_images}
 use Rattle.page_workers.specs.WorkerValue.{IsHolding, WorkerValue}
 use Rattle.index_load.specs.Columns.{column}

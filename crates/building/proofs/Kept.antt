@@ -15,7 +15,7 @@ use Rattle.run_maker.specs.Making.{spec_at}
 use Rattle.page_workers.specs.Holding.{HoldsOpen, HoldsPairs}
 use Rattle.page_workers.specs.ImagePairs.{HavePairs}
 use Rattle.page_workers.specs.SpoolValue.{SpoolValue}
-use Rattle.page_workers.specs.TakeEnd.{TakeEnd}
+use Rattle.side_file.specs.Ends.{TakeEnd}
 use Rattle.page_workers.specs.Taking.{received_images}
 use Rattle.page_workers.specs.declared.turn.Turn.{Turn}
 use Rattle.page_workers.specs.declared.turn.Turn.TheVariants.{Digest, Seal}

@@ -8,7 +8,7 @@ use Rattle.keybytes.specs.declared.fault.Fault.{Fault}
 use Rattle.keybytes.specs.declared.pair.Pair.{Pair}
 use Rattle.run_spool.specs.Spools.{AreSorted, holds_nothing}
 use Rattle.page_workers.specs.SpoolValue.{SpoolValue, pairs_in, runs_of, spool_value, stakes_of}
-use Rattle.page_workers.specs.TakeEnd.{TakeEnd}
+use Rattle.side_file.specs.Ends.{TakeEnd}
 use Rattle.page_workers.specs.WorkerValue.{WorkerValue}
 use Rattle.side_file.specs.declared.entry.Entry.{Entry}
 use Rattle.catch_up.specs.Built.{BuiltValue}

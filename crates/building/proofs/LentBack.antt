@@ -11,7 +11,7 @@ use Rattle.side_file.specs.Ends.{RingId}
 use Rattle.side_file.specs.declared.entry.Entry.{Entry}
 use Rattle.page_workers.specs.IntakeValue.{IntakeValue}
 use Rattle.page_workers.specs.SpoolValue.{SpoolValue}
-use Rattle.page_workers.specs.TakeEnd.{TakeEnd}
+use Rattle.side_file.specs.Ends.{TakeEnd}
 use Rattle.page_workers.specs.WorkerValue.{SameWorker, WorkerValue}
 use Rattle.index_load.proofs.SpoolPlaces.{flat_many}
 use Rattle.building.specs.BuildingValue.{BuildingValue, WorkValue, intakes}

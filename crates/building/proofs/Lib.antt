@@ -1,6 +1,7 @@
 pub mod AppliedKept
 pub mod Applying
 pub mod AtWork
+pub mod BatchLemmas
 pub mod Beginning
 pub mod BroughtHome
 pub mod Equipping

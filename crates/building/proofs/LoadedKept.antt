@@ -20,7 +20,7 @@ use Rattle.catch_up.specs.Built.{BuiltValue, told_to}
 use Rattle.page_workers.specs.Holding.{HoldsPairs}
 use Rattle.page_workers.specs.ImagePairs.{HavePairs}
 use Rattle.page_workers.specs.SpoolValue.{SpoolValue, ended_spool, pairs_in, runs_of}
-use Rattle.page_workers.specs.TakeEnd.{TakeEnd}
+use Rattle.side_file.specs.Ends.{TakeEnd}
 use Rattle.page_workers.specs.WorkerValue.{WorkerValue}
 use Rattle.page_workers.proofs.ManyPairs.{have_append}
 use Rattle.index_load.specs.Columns.{column, ended_column}

@@ -15,7 +15,7 @@ use Rattle.page_workers.specs.Turns.{HasLooked}
 use Rattle.side_file.specs.Ends.{RingId}
 use Rattle.side_file.specs.declared.entry.Entry.{Entry}
 use Rattle.page_workers.specs.IntakeValue.{IntakeValue}
-use Rattle.page_workers.specs.TakeEnd.{TakeEnd}
+use Rattle.side_file.specs.Ends.{TakeEnd}
 use Rattle.page_workers.proofs.Places.{as_long, same_at, set_same}
 use Rattle.std.specs.Prelude.{flat_map}
 use Rattle.page_workers.specs.Holding.{HoldsPairs}

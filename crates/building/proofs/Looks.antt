@@ -6,7 +6,7 @@ use Rattle.std.proofs.lemmas.List.{length-map, map-append}
 use Rattle.side_file.specs.Ends.{PutEnd, RingId}
 use Rattle.side_file.specs.declared.entry.Entry.{Entry}
 use Rattle.page_workers.specs.IntakeValue.{IntakeValue}
-use Rattle.page_workers.specs.TakeEnd.{PutEndLooked, TakeEnd}
+use Rattle.side_file.specs.Ends.{PutEndLooked, TakeEnd}
 use Rattle.page_workers.specs.WorkerValue.{WorkerValue}
 use Rattle.page_workers.specs.declared.copied.Copied.{Copied}
 use Rattle.building.specs.BuildingValue.{intakes}

@@ -5,7 +5,7 @@ use Rattle.side_file.specs.Ends.{RingId}
 use Rattle.side_file.specs.declared.entry.Entry.{Entry}
 use Rattle.page_workers.proofs.Places.{all_from, at_set, mapped, same_at}
 use Rattle.page_workers.specs.IntakeValue.{IntakeValue}
-use Rattle.page_workers.specs.TakeEnd.{TakeEnd}
+use Rattle.side_file.specs.Ends.{TakeEnd}
 use Rattle.page_workers.specs.WorkerValue.{WorkerValue}
 use Rattle.building.proofs.Looks.{ring_at}
 use Rattle.building.specs.BuildingValue.{intakes}

@@ -12,7 +12,7 @@ use Rattle.spool_ledger.specs.Accounts.{Stake}
 use Rattle.page_workers.specs.declared.turn.Turn.{Turn}
 use Rattle.page_workers.specs.IntakeValue.{IntakeValue}
 use Rattle.page_workers.specs.SpoolValue.{SpoolValue, stakes_of}
-use Rattle.page_workers.specs.TakeEnd.{TakeEnd}
+use Rattle.side_file.specs.Ends.{TakeEnd}
 use Rattle.page_workers.specs.Turns.{HasDone, HasLooked, IsStopped}
 use Rattle.page_workers.specs.WorkerValue.{SameWorker, WorkerValue}
 use Rattle.building.specs.BuildingValue.{BuildingValue, WorkValue, intakes}

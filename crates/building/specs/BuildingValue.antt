@@ -5,7 +5,7 @@ use Rattle.keybytes.specs.Keys.{KeySpecValue}
 use Rattle.keybytes.specs.declared.fault.Fault.{Fault}
 use Rattle.keybytes.specs.declared.pair.Pair.{Pair}
 use Rattle.side_file.specs.declared.entry.Entry.{Entry}
-use Rattle.page_workers.specs.TakeEnd.{TakeEnd}
+use Rattle.side_file.specs.Ends.{TakeEnd}
 use Rattle.page_workers.specs.IntakeValue.{IntakeValue}
 use Rattle.page_workers.specs.SpoolValue.{SpoolValue, ended_spool}
 use Rattle.page_workers.specs.WorkerValue.{WorkerValue}

@@ -16,7 +16,7 @@ use Rattle.run_maker.specs.Making.{spec_at}
 use Rattle.page_workers.specs.Holding.{HoldsOpen}
 use Rattle.page_workers.specs.ImagePairs.{HavePairs}
 use Rattle.page_workers.specs.SpoolValue.{SpoolValue, pairs_in}
-use Rattle.page_workers.specs.TakeEnd.{TakeEnd}
+use Rattle.side_file.specs.Ends.{TakeEnd}
 use Rattle.page_workers.specs.Taking.{received_images, unsealed_images}
 use Rattle.page_workers.specs.WorkerValue.{IsCounting, IsHolding, WorkerValue}
 use Rattle.index_load.specs.Columns.{column}

@@ -7,7 +7,7 @@ use Rattle.keybytes.specs.declared.fault.Fault.{Fault}
 use Rattle.side_file.specs.Ends.{RingId}
 use Rattle.side_file.specs.declared.entry.Entry.{Entry}
 use Rattle.page_workers.specs.IntakeValue.{IntakeValue}
-use Rattle.page_workers.specs.TakeEnd.{TakeEnd}
+use Rattle.side_file.specs.Ends.{TakeEnd}
 use Rattle.page_workers.specs.WorkerValue.{WorkerValue}
 use Rattle.table_scan.specs.SideFiles.{taken_rings}
 use Rattle.building.specs.BuildingValue.{BuildingValue, WorkValue}

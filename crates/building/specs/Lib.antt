@@ -1,3 +1,4 @@
+pub mod Batches
 pub mod BuildingValue
 pub mod Equipped
 pub mod Holding

@@ -5,7 +5,7 @@ use Rattle.keybytes.specs.declared.kind.Kind.{Kind}
 use Rattle.keybytes.specs.Keys.{KeySpecValue}
 use Rattle.side_file.specs.Ends.{PutEnd, RingId}
 use Rattle.side_file.specs.declared.entry.Entry.{Entry}
-use Rattle.page_workers.specs.TakeEnd.{PutEndLooked, TakeEnd}
+use Rattle.side_file.specs.Ends.{PutEndLooked, TakeEnd}
 use Rattle.page_workers.specs.Holding.{HoldsOpen}
 use Rattle.page_workers.specs.Taking.{IsTaking, unsealed_images}
 use Rattle.page_workers.specs.Work.{knowing, at_start}

@@ -8,7 +8,7 @@ use Rattle.side_file.specs.Ends.{PutEnd}
 use Rattle.side_file.specs.declared.entry.Entry.{Entry}
 use Rattle.visibility.specs.Applied.{apply_entries}
 use Rattle.catch_up.specs.Built.{BuiltValue, MayWant, told_to}
-use Rattle.page_workers.specs.TakeEnd.{TakeEnd}
+use Rattle.side_file.specs.Ends.{TakeEnd}
 use Rattle.page_workers.specs.SpoolValue.{SpoolValue, pairs_in, stakes_of}
 use Rattle.page_workers.specs.WorkerValue.{WorkerValue}
 use Rattle.index_load.specs.Columns.{column, other_columns, ended_column}

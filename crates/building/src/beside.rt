@@ -19,9 +19,8 @@ use crate::work::Work;
 use catch_up::apply;
 use keybytes::Fault;
 use page_workers::{Intake, TableRings, Worker};
-use rtrb::Consumer;
 use run_spool::{Spool, are_empty};
-use side_file::Entry;
+use side_file::EntryEnd;
 use std::alloc::Global;
 use std::marker::{Model, PhantomData};
 use std::mem::replace;
@@ -35,7 +34,7 @@ pub struct Building<S: Spool, T: TableRings> {
     /// The intakes of the rings that have no worker, those behind the workers'.
     pub(crate) idle: Vec<Intake>,
     /// The ends of the side-files' rings that take, one for each index that a build may have.
-    pub(crate) side_ends: Vec<Consumer<Entry>>,
+    pub(crate) side_ends: Vec<EntryEnd>,
     /// The spools that no worker has.
     pub(crate) spools: Vec<S>,
     /// Whether a build was given the spools; they are then not left for a next one.
@@ -51,7 +50,6 @@ impl<S: Spool, T: TableRings> Model for Building<S, T> {
 
     ghost use Rattle.std.specs.Prelude.{◌≡◌, ◌≤◌, [], length, map, true, false, All, None, vec_capacity};
     ghost use Rattle.page_workers.specs.SpoolValue.{spool_value};
-    ghost use Rattle.page_workers.specs.TakeEnd.{take_end};
     ghost use Rattle.building.specs.Holding.{all_spools};
     ghost use Rattle.building.specs.Keeping.{AreNumbered, KeepsWork};
     ghost use Rattle.building.specs.Rings.{AreTakeEnds};
@@ -59,19 +57,19 @@ impl<S: Spool, T: TableRings> Model for Building<S, T> {
     ghost view = { λ building. record {
       workers = building.workers.items;
       idle = building.idle.items;
-      sides = map take_end building.side_ends.items;
+      sides = building.side_ends.items;
       spools = map (spool_value S.runs S.open_run S.stake) building.spools.items;
       given = building.given;
       work = building.work;
     } };
 
-    ghost invariant = { λ building. AreTakeEnds T.pages T.sides (intakes building.workers.items building.idle.items) (map take_end building.side_ends.items)
+    ghost invariant = { λ building. AreTakeEnds T.pages T.sides (intakes building.workers.items building.idle.items) building.side_ends.items
         × (16 ≤ vec_capacity building.idle)
         × (length (all_spools building.workers.items (map (spool_value S.runs S.open_run S.stake) building.spools.items)) ≤ vec_capacity building.spools)
         × (building.work ≡ None → building.workers.items ≡ [])
         × (building.given ≡ false → building.work ≡ None)
         × (building.given ≡ true → building.work ≡ None → All S.ended building.spools.items)
-        × KeepsWork building.workers.items (map take_end building.side_ends.items) (map (spool_value S.runs S.open_run S.stake) building.spools.items)
+        × KeepsWork building.workers.items building.side_ends.items (map (spool_value S.runs S.open_run S.stake) building.spools.items)
         building.work
         × AreNumbered building.workers.items };
 }
@@ -289,7 +287,7 @@ impl<S: Spool, T: TableRings> Building<S, T> {
         requires { index < 8 }
         ensures { HasSeenEntries index self.old result self.new }
     {
-        self.side_ends[index].slots()
+        self.side_ends[index].look()
     }
 
     /// Applies the next entries that the index's ring is seen to have, and answers how many. Those that were applied before

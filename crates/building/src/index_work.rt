@@ -1,10 +1,14 @@
-ghost use Rattle.std.specs.Prelude.{◌≡◌, IsSome, IfSome, IfOk, IfErr, IsOk};
+ghost use Rattle.std.specs.Prelude.{◌≡◌, IsSome, IfSome, IfOk, IfErr, IsOk, OnOk};
 ghost use Rattle.unique_verdict.specs.Verdicts.{IsShort, accepts};
+ghost use Rattle.catch_up.specs.Applying.{TakesKnown};
+ghost use Rattle.building.specs.Batches.{BatchIsIn};
 ghost use Rattle.building.specs.Verdicts.{its_verdict};
 
 use btree::Tree;
-use catch_up::Built;
+use catch_up::{Built, apply_batch};
 use keybytes::Fault;
+use side_file::EntryEnd;
+use std::alloc::Global;
 use std::marker::Model;
 use unique_verdict::Verdict;
 
@@ -46,6 +50,27 @@ impl IndexWork {
             Some(built) => built.is_accepted(),
             None => true,
         }
+    }
+
+    /// Applies all entries that the ring is known to have to its pairs, which are in order, and answers how many. Where memory is wanted, as where
+    /// they can't be counted, the index is of no more use.
+    pub(crate) fn apply_batch(&mut self, alloc: Global, end: &mut EntryEnd) -> Result<usize, Fault>
+        requires { IsSome self.old.built }
+        ensures applied { IfOk result (λ count. BatchIsIn end.old.known self.old count self.new) }
+        ensures taken { OnOk result (TakesKnown end.old end.new) }
+        ensures ring { end.new.ring ≡ end.old.ring }
+        ensures memory { IfErr result (λ fault. fault ≡ Fault.Memory) }
+    {
+        let Some(built) = &mut self.built else {
+            unreachable!()
+        };
+        let Some(applied) = self.applied.checked_add(end.known()) else {
+            return Err(Fault::Memory);
+        };
+        let count = apply_batch(alloc, built, end)?;
+        built.laws();
+        self.applied = applied;
+        Ok(count)
     }
 
     /// Its pairs, which are in order.

@@ -1,7 +1,6 @@
 //! Workers that are lent, to threads.
 ghost use Rattle.std.specs.Prelude.{◌≡◌, ◌-◌, ◌*◌, ◌≤◌, [], All, length, map, Some, IfSome, vec_capacity};
 ghost use Rattle.page_workers.specs.SpoolValue.{spool_value, stakes_of};
-ghost use Rattle.page_workers.specs.TakeEnd.{take_end};
 ghost use Rattle.building.specs.BuildingValue.{intakes};
 ghost use Rattle.building.specs.Equipped.{HasRoomFor};
 ghost use Rattle.building.specs.Holding.{workers_spools};
@@ -13,9 +12,8 @@ use crate::rings::laws_of;
 use crate::work::Work;
 use keybytes::Fault;
 use page_workers::{Intake, TableRings, Worker};
-use rtrb::Consumer;
 use run_spool::Spool;
-use side_file::Entry;
+use side_file::EntryEnd;
 use std::marker::{Model, PhantomData};
 
 /// A [`Building`] whose workers are lent.
@@ -26,7 +24,7 @@ use std::marker::{Model, PhantomData};
 /// the spools that came back. Lost are then the ends of the rings that did not come back, and spools that their thread didn't hand out.
 pub struct WithoutWorkers<S: Spool, T: TableRings> {
     idle: Vec<Intake>,
-    side_ends: Vec<Consumer<Entry>>,
+    side_ends: Vec<EntryEnd>,
     /// Room for the spools of the workers, and none of them.
     spools: Vec<S>,
     work: Work,
@@ -40,19 +38,18 @@ impl<S: Spool, T: TableRings> Model for WithoutWorkers<S, T> {
 
     ghost use Rattle.std.specs.Prelude.{◌≡◌, ◌-◌, ◌*◌, ◌≤◌, [], length, map, true, Some, vec_capacity};
     ghost use Rattle.page_workers.specs.SpoolValue.{spool_value};
-    ghost use Rattle.page_workers.specs.TakeEnd.{take_end};
     ghost use Rattle.building.specs.Lent.{StaysWithout};
 
     ghost view = { λ rest. record {
       workers = [];
       idle = rest.idle.items;
-      sides = map take_end rest.side_ends.items;
+      sides = rest.side_ends.items;
       spools = map (spool_value S.runs S.open_run S.stake) rest.spools.items;
       given = true;
       work = Some rest.work;
     } };
 
-    ghost invariant = { λ rest. StaysWithout T.pages T.sides rest.idle.items (map take_end rest.side_ends.items) rest.work
+    ghost invariant = { λ rest. StaysWithout T.pages T.sides rest.idle.items rest.side_ends.items rest.work
         × (rest.spools.items ≡ [])
         × (16 ≤ vec_capacity rest.idle)
         × ((16 - length rest.idle.items) * length rest.work.specs ≤ vec_capacity rest.spools) };
@@ -120,10 +117,10 @@ impl<S: Spool, T: TableRings> WithoutWorkers<S, T> {
     /// Gives the work of the build up, with the workers that came back, whatever threads did with them: answered with the intakes that are
     /// left, theirs first, with the ends of the side-files' rings, and with the spools that came back, ended. Workers of another table would be
     /// ended as well: the intakes tell whose rings came back. Takes no memory.
-    pub fn give_up(self, workers: Vec<Worker<S>>) -> (Vec<Intake>, Vec<Consumer<Entry>>, Vec<S>)
+    pub fn give_up(self, workers: Vec<Worker<S>>) -> (Vec<Intake>, Vec<EntryEnd>, Vec<S>)
         requires { AreNoMore self workers.items }
         ensures intakes { result.0.items ≡ intakes workers.items self.idle }
-        ensures sides { map take_end result.1.items ≡ self.sides }
+        ensures sides { result.1.items ≡ self.sides }
         ensures ended { All S.ended result.2.items }
         ensures stakes { map S.stake result.2.items ≡ stakes_of (workers_spools workers.items) }
     {
@@ -136,10 +133,10 @@ impl<S: Spool, T: TableRings> WithoutWorkers<S, T> {
     /// Gives the work of the build up without its workers: answered with the intakes that no worker had, with the ends of the side-files'
     /// rings, and with an empty list that has room for the spools of all workers. Of a worker that came back [`Worker::into_parts`] takes the
     /// spools out, which `index_load::end_spools` ends. Takes no memory.
-    pub fn into_parts(self) -> (Vec<Intake>, Vec<Consumer<Entry>>, Vec<S>)
+    pub fn into_parts(self) -> (Vec<Intake>, Vec<EntryEnd>, Vec<S>)
         ensures idle { result.0.items ≡ self.idle }
         ensures rings { 16 ≤ vec_capacity result.0 }
-        ensures sides { map take_end result.1.items ≡ self.sides }
+        ensures sides { result.1.items ≡ self.sides }
         ensures room { IfSome self.work (λ work. HasRoomFor ((16 - length self.idle) * length work.specs) result.2) }
     {
         let WithoutWorkers {

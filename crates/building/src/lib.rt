@@ -8,6 +8,7 @@
 //! the build that a table knows is said once, by `AreAtWork` and `IsWorkOfBuild` of `specs/WorkOn.antt`.
 #![tactic(auto)]
 
+mod batches;
 mod beside;
 mod ends;
 mod equipment;

@@ -3,7 +3,7 @@ ghost use Rattle.std.specs.Prelude.{◌≡◌, ◌++◌, ◌<◌, ◌≤◌, ◌
 ghost use Rattle.std.specs.List.{AllZip};
 ghost use Rattle.side_file.specs.Changes.{Looks};
 ghost use Rattle.side_file.specs.Ends.{PutEnd};
-ghost use Rattle.page_workers.specs.TakeEnd.{PutEndLooked};
+ghost use Rattle.side_file.specs.Ends.{PutEndLooked};
 ghost use Rattle.page_workers.specs.WorkerValue.{WorkerValue};
 ghost use Rattle.page_workers.specs.declared.copied.Copied.{Copied};
 ghost use Rattle.table_scan.specs.SideFiles.{drained_end, put_ends, side_rings};

@@ -6,9 +6,8 @@ ghost use Rattle.building.specs.Rings.{take_rings};
 use crate::beside::Building;
 use crate::work::Work;
 use page_workers::{Intake, TableRings, Worker};
-use rtrb::Consumer;
 use run_spool::Spool;
-use side_file::Entry;
+use side_file::EntryEnd;
 use std::marker::{Model, PhantomData};
 
 /// A [`Building`] whose name was taken off, for whoever can't keep a type. Its ends tell which rings a name has to be of for
@@ -18,7 +17,7 @@ use std::marker::{Model, PhantomData};
 pub struct UnnamedBuilding<S: Spool> {
     workers: Vec<Worker<S>>,
     idle: Vec<Intake>,
-    side_ends: Vec<Consumer<Entry>>,
+    side_ends: Vec<EntryEnd>,
     spools: Vec<S>,
     given: bool,
     work: Option<Work>,
@@ -45,7 +44,6 @@ impl<S: Spool> Model for UnnamedBuilding<S> {
     ghost use Rattle.std.specs.Prelude.{◌≡◌, ◌≤◌, [], length, map, true, false, All, None, vec_capacity};
     ghost use Rattle.table_scan.specs.SideFiles.{taken_rings};
     ghost use Rattle.page_workers.specs.SpoolValue.{spool_value};
-    ghost use Rattle.page_workers.specs.TakeEnd.{take_end};
     ghost use Rattle.building.specs.Holding.{all_spools};
     ghost use Rattle.building.specs.Keeping.{AreNumbered, KeepsWork};
     ghost use Rattle.building.specs.Rings.{AreTakeEnds, take_rings};
@@ -53,21 +51,21 @@ impl<S: Spool> Model for UnnamedBuilding<S> {
     ghost view = { λ unnamed. record {
       workers = unnamed.workers.items;
       idle = unnamed.idle.items;
-      sides = map take_end unnamed.side_ends.items;
+      sides = unnamed.side_ends.items;
       spools = map (spool_value S.runs S.open_run S.stake) unnamed.spools.items;
       given = unnamed.given;
       work = unnamed.work;
     } };
 
     ghost invariant = { λ unnamed. AreTakeEnds (take_rings (intakes unnamed.workers.items unnamed.idle.items))
-        (taken_rings (map take_end unnamed.side_ends.items))
-        (intakes unnamed.workers.items unnamed.idle.items) (map take_end unnamed.side_ends.items)
+        (taken_rings unnamed.side_ends.items)
+        (intakes unnamed.workers.items unnamed.idle.items) unnamed.side_ends.items
         × (16 ≤ vec_capacity unnamed.idle)
         × (length (all_spools unnamed.workers.items (map (spool_value S.runs S.open_run S.stake) unnamed.spools.items)) ≤ vec_capacity unnamed.spools)
         × (unnamed.work ≡ None → unnamed.workers.items ≡ [])
         × (unnamed.given ≡ false → unnamed.work ≡ None)
         × (unnamed.given ≡ true → unnamed.work ≡ None → All S.ended unnamed.spools.items)
-        × KeepsWork unnamed.workers.items (map take_end unnamed.side_ends.items) (map (spool_value S.runs S.open_run S.stake) unnamed.spools.items) unnamed.work
+        × KeepsWork unnamed.workers.items unnamed.side_ends.items (map (spool_value S.runs S.open_run S.stake) unnamed.spools.items) unnamed.work
         × AreNumbered unnamed.workers.items };
 }
 

@@ -1,13 +1,10 @@
 -- What applying the entries that wait leaves of an index, of its side-file and of the ring between them.
 use Rattle.std.specs.Prelude.{◌≡◌, ℕ, ◌<◌, ◌≤◌, List, [], ◌∷◌, ◌++◌, length, Result, IfOk, OnOk, OnErr, IfErr}
-use Rattle.std.specs.declared.alloc.Global.{Global}
 use mathlib.Core.List.{IsPrefix}
-use Rattle.rtrb.specs.declared.consumer.Consumer.{Consumer}
-use Rattle.rtrb.specs.Ring.{received, known_items}
 use Rattle.keybytes.specs.Pairs.{set_of}
 use Rattle.keybytes.specs.declared.fault.Fault.{Fault}
 use Rattle.keybytes.specs.declared.fault.Fault.TheVariants.{Memory}
-use Rattle.side_file.specs.Ends.{ring_take}
+use Rattle.side_file.specs.Ends.{TakeEnd}
 use Rattle.side_file.specs.declared.entry.Entry.{Entry}
 use Rattle.visibility.specs.Applied.{apply_entries}
 use Rattle.catch_up.specs.Built.{BuiltValue, MayWant, told_to}
@@ -18,27 +15,29 @@ pub record Applied (entries : List Entry) (old new : BuiltValue) : Type 0 where
   pub unique : new.unique ≡ old.unique
   pub pairs : set_of new.pairs ≡ apply_entries (told_to old.build entries) (set_of old.pairs)
 
-module _ {P : Type 0} where
-  -- they left the ring in order, those first that were known to be in it
-  pub record Taken (entries : List Entry) (old new : Consumer Entry Global P) : Type 0 where
-    pub ring : ring_take new ≡ ring_take old
-    pub received : received new ≡ received old ++ entries
-    pub known : IsPrefix (known_items old) (entries ++ known_items new)
+-- they left the ring in order, those first that were known to be in it
+pub record Taken (entries : List Entry) (old new : TakeEnd Entry) : Type 0 where
+  pub ring : new.ring ≡ old.ring
+  pub received : new.received ≡ old.received ++ entries
+  pub known : IsPrefix old.known (entries ++ new.known)
 
-  -- the entry that the ring has next may want memory
-  abbrev pub NextMayWant : BuiltValue → Consumer Entry Global P → Type 0
-  NextMayWant built ring = (entry : Entry) × IsPrefix (entry ∷ []) (known_items ring) × MayWant built entry
+-- all that were known to be in the ring left it
+pub record TakesKnown (old new : TakeEnd Entry) : Type 0 where
+  pub taken : Taken old.known old new
+  pub none_left : new.known ≡ []
 
-  -- at most k entries are taken and applied: fewer only for want of memory, or where no more is known to be in the ring
-  pub record Applies
-      (k : ℕ) (old : BuiltValue) (before : Consumer Entry Global P) (answer : Result ℕ Fault) (new : BuiltValue)
-      (after : Consumer Entry Global P) : Type 0 where
-    pub entries : List Entry
-    pub taken : Taken entries before after
-    pub applied : Applied entries old new
-    pub most : length entries ≤ k
-    pub count : IfOk answer (λ count. count ≡ length entries)
-    pub all : OnOk answer (length entries < k → known_items after ≡ [])
-    pub short : OnErr answer (length entries < k)
-    pub needed : OnErr answer (NextMayWant new after)
-    pub memory : IfErr answer (λ fault. fault ≡ Memory)
+-- the entry that the ring has next may want memory
+abbrev pub NextMayWant : BuiltValue → TakeEnd Entry → Type 0
+NextMayWant built end = (entry : Entry) × IsPrefix (entry ∷ []) end.known × MayWant built entry
+
+-- at most k entries are taken and applied: fewer only for want of memory, or where no more is known to be in the ring
+pub record Applies (k : ℕ) (old : BuiltValue) (before : TakeEnd Entry) (answer : Result ℕ Fault) (new : BuiltValue) (after : TakeEnd Entry) : Type 0 where
+  pub entries : List Entry
+  pub taken : Taken entries before after
+  pub applied : Applied entries old new
+  pub most : length entries ≤ k
+  pub count : IfOk answer (λ count. count ≡ length entries)
+  pub all : OnOk answer (length entries < k → after.known ≡ [])
+  pub short : OnErr answer (length entries < k)
+  pub needed : OnErr answer (NextMayWant new after)
+  pub memory : IfErr answer (λ fault. fault ≡ Memory)

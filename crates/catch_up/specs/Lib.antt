@@ -1,2 +1,3 @@
 pub mod Applying
+pub mod Batches
 pub mod Built

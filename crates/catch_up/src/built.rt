@@ -1,16 +1,17 @@
 ghost use Rattle.std.specs.Prelude.{◌≡◌, ◌+◌, ◌<◌, [], length, take, true, false, IfOk, OnOk, OnErr, IfErr, IsOk};
-ghost use Rattle.rtrb.specs.Ring.{known_items};
-ghost use Rattle.keybytes.specs.Pairs.{AreOrdered};
+ghost use Rattle.keybytes.specs.Pairs.{AreOrdered, set_of};
+ghost use Rattle.btree.specs.Changes.{changed};
 ghost use Rattle.catch_up.specs.Applying.{Applied, NextMayWant, Taken};
 ghost use Rattle.catch_up.specs.Built.{verdict_of};
 ghost use Rattle.unique_verdict.specs.Verdicts.{IsShort, accepts};
 
+use crate::batch;
 use crate::changing::{change, count, make_room};
-use btree::Tree;
+use btree::{Change, Tree};
 use keybytes::Fault;
-use rtrb::Consumer;
-use side_file::Entry;
+use side_file::EntryEnd;
 use std::alloc::Global;
+use std::collections::VecDeque;
 use std::marker::Model;
 use unique_verdict::{Tally, Verdict};
 
@@ -131,23 +132,33 @@ impl Built {
 
     /// Takes the next entry out of the ring, which is known to have one, and applies it if it is of this build. Room for its pair
     /// comes first: want of memory leaves the entry in the ring.
-    pub(crate) fn take_next(&mut self, ring: &mut Consumer<Entry>) -> Result<(), Fault>
-        requires { 0 < length (known_items ring.old) }
-        ensures taken { OnOk result (Taken (take 1 (known_items ring.old)) ring.old ring.new) }
-        ensures known { OnOk result (length (known_items ring.old) ≡ length (known_items ring.new) + 1) }
-        ensures applied { OnOk result (Applied (take 1 (known_items ring.old)) self.old self.new) }
-        ensures waits { OnErr result (Taken [] ring.old ring.new) }
+    pub(crate) fn take_next(&mut self, end: &mut EntryEnd) -> Result<(), Fault>
+        requires { 0 < length end.old.known }
+        ensures taken { OnOk result (Taken (take 1 end.old.known) end.old end.new) }
+        ensures known { OnOk result (length end.old.known ≡ length end.new.known + 1) }
+        ensures applied { OnOk result (Applied (take 1 end.old.known) self.old self.new) }
+        ensures waits { OnErr result (Taken [] end.old end.new) }
         ensures unchanged { OnErr result (self.new ≡ self.old) }
-        ensures needed { OnErr result (NextMayWant self.new ring.new) }
+        ensures needed { OnErr result (NextMayWant self.new end.new) }
         ensures memory { IfErr result (λ fault. fault ≡ Fault.Memory) }
     {
-        let next = ring.peek_known();
+        let next = end.peek();
         make_room(&mut self.tree, self.build, next)?;
         count(&mut self.tally, &self.tree, self.build, next)?;
-        let entry = ring.pop_known();
+        let entry = end.pop();
         if entry.build == self.build {
             change(&mut self.tree, entry);
         }
         Ok(())
+    }
+
+    /// Makes the changes, from the first to the last. Where memory is wanted nothing is known of the pairs.
+    pub(crate) fn make_all(&mut self, changes: VecDeque<Change>) -> Result<(), Fault>
+        ensures build { self.new.build ≡ self.old.build }
+        ensures unique { self.new.unique ≡ self.old.unique }
+        ensures made { OnOk result (set_of self.new.pairs ≡ changed changes.items (set_of self.old.pairs)) }
+        ensures memory { IfErr result (λ fault. fault ≡ Fault.Memory) }
+    {
+        batch::make_all(&mut self.tree, &mut self.tally, changes)
     }
 }

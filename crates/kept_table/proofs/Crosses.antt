@@ -9,8 +9,7 @@ use Rattle.keybytes.proofs.key_spec.KeySpec.TheSendSync as spec
 use Rattle.heap_table.proofs.heap.Heap.TheSendSync as heap
 use Rattle.btree.proofs.Crosses.{tree_send}
 use Rattle.ready_indexes.proofs.Crosses.{ready_send}
-use Rattle.rtrb.proofs.consumer.Consumer.TheSendSync as consumer
-use Rattle.side_file.proofs.entry.Entry.TheSendSync as entry
+use Rattle.side_file.proofs.entry_end.EntryEnd.TheSendSync as entry_end
 use Rattle.side_file.proofs.side_file.SideFile.TheSendSync as side
 use Rattle.run_spool.specs.declared.spool.Spool as spool
 use Rattle.prefix_spool.proofs.either.SpoolOfKind.TheSendSync as spools
@@ -50,7 +49,7 @@ building_send S g s =
       (
         Vec-send Intake.the_row intake.the_send,
         (
-          Vec-send _ (search (consumer.the_send, entry.the_send, sendable, crosses) depth 20),
+          Vec-send _ entry_end.the_send,
           (Vec-send S s, (plain_send _ _ _ _ _, (option.the_field_send Work.the_row work_send, tt))),
         ),
       ),

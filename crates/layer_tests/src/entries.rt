@@ -1,16 +1,15 @@
 //! A side-file, and the index that its entries are applied to.
 ghost use Rattle.std.specs.Prelude.{◌≡◌};
-ghost use Rattle.side_file.specs.Ends.{ring_take};
 
 mod cases;
 
 use crate::desk::{Desk, first_other};
 use btree::Tree;
 pub use cases::CASES;
-use catch_up::{Built, apply};
+use catch_up::{Built, apply, apply_batch};
+use chunk_list::{CHUNK, ChunkQueue};
 use keybytes::{Fault, Key, Rid};
-use rtrb::Consumer;
-use side_file::{Entry, Op, SideFile};
+use side_file::{Entry, EntryEnd, Op, SideFile};
 use std::alloc::Global;
 
 /// An entry in short: the number of its build, what it does, the byte of its key and the page of its RID.
@@ -21,6 +20,8 @@ pub enum Step {
     Append(&'static [Short]),
     /// Feeds at most so many, and that many are fed.
     Feed(usize, usize),
+    /// The same, as one batch.
+    FeedBatch(usize, usize),
     Reset,
     /// How many are fed and left, and how many wait in the ring.
     Counts(usize, usize, usize),
@@ -28,6 +29,8 @@ pub enum Step {
     Take(&'static [Short]),
     /// Applies at most so many, and that many are taken.
     Apply(usize, usize),
+    /// Applies all that wait as one batch, and that many are taken.
+    ApplyBatch(usize),
     /// The pages of the pairs, in order.
     Pages(&'static [u32]),
 }
@@ -35,17 +38,17 @@ pub enum Step {
 /// A side-file with the other end of its ring, and an index.
 pub struct Bench {
     side: SideFile,
-    ring: Consumer<Entry>,
+    end: EntryEnd,
     built: Built,
     alloc: Global,
-    ghost paired: { side.end.ring ≡ ring_take ring },
+    ghost paired: { side.end.ring ≡ end.ring },
 }
 
 impl Drop for Bench {
     fn drop(self) {
         let Bench {
             side: _,
-            ring: _,
+            end: _,
             built: _,
             alloc: _,
         } = self;
@@ -54,10 +57,10 @@ impl Drop for Bench {
 
 /// The first step that an empty side-file and an index of build 7 answer otherwise.
 pub fn told(alloc: Global, steps: &[Step]) -> Result<Option<usize>, Fault> {
-    let (side, ring) = SideFile::new(alloc)?;
+    let (side, end) = SideFile::new(alloc)?;
     let mut bench = Bench {
         side,
-        ring,
+        end,
         built: Built::new(7, Tree::new(alloc)),
         alloc,
     };
@@ -94,10 +97,12 @@ impl Desk for Bench {
         match *step {
             Step::Append(entries) => self.append_all(entries),
             Step::Feed(most, fed) => Ok(self.side.feed(most) == fed),
+            Step::FeedBatch(most, fed) => Ok(self.feed_batch(most)? == fed),
             Step::Reset => Ok(self.reset()),
             Step::Counts(fed, left, waiting) => Ok(self.counts() == (fed, left, waiting)),
             Step::Take(entries) => self.takes_all(entries),
             Step::Apply(most, taken) => Ok(self.apply(most)? == taken),
+            Step::ApplyBatch(taken) => Ok(self.apply_batch()? == taken),
             Step::Pages(pages) => Ok(has_pages(self.built.tree(), pages)),
         }
     }
@@ -127,7 +132,7 @@ impl Bench {
     }
 
     fn counts(&mut self) -> (usize, usize, usize) {
-        let waiting = self.side.beside(&mut self.ring);
+        let waiting = self.side.beside(&mut self.end);
         (self.side.fed(), self.side.left(), waiting)
     }
 
@@ -141,17 +146,28 @@ impl Bench {
     }
 
     fn takes(&mut self, entry: &Entry) -> bool {
-        match self.ring.pop() {
-            Ok(taken) => taken == *entry,
-            Err(_) => false,
-        }
+        self.end.look() > 0 && self.end.pop() == *entry
     }
 
     /// What is refused for want of memory is tried once more.
     fn apply(&mut self, most: usize) -> Result<usize, Fault> {
-        match apply(&mut self.built, &mut self.ring, most) {
-            Err(_) => apply(&mut self.built, &mut self.ring, most),
+        match apply(&mut self.built, &mut self.end, most) {
+            Err(_) => apply(&mut self.built, &mut self.end, most),
             taken => taken,
         }
+    }
+
+    fn feed_batch(&mut self, most: usize) -> Result<usize, Fault> {
+        let Some(room) = most.checked_add(2 * CHUNK) else {
+            return Err(Fault::Memory);
+        };
+        let mut batch = ChunkQueue::new(self.alloc);
+        batch.reserve(room)?;
+        Ok(self.side.feed_batch(most, batch))
+    }
+
+    fn apply_batch(&mut self) -> Result<usize, Fault> {
+        self.end.look();
+        apply_batch(self.alloc, &mut self.built, &mut self.end)
     }
 }

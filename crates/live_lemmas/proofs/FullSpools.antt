@@ -20,7 +20,7 @@ use Rattle.run_spool.specs.Spools.{NoPageOnlyIf}
 use Rattle.page_workers.specs.Copies.{images_of}
 use Rattle.page_workers.specs.ImagePairs.{HavePairs}
 use Rattle.page_workers.specs.SpoolValue.{SpoolValue, spool_value, stakes_of}
-use Rattle.page_workers.specs.TakeEnd.{TakeEnd, after_taking}
+use Rattle.side_file.specs.Ends.{TakeEnd, after_taking}
 use Rattle.page_workers.specs.declared.turn.Turn.{Turn}
 use Rattle.page_workers.specs.declared.turn.Turn.TheVariants.{Digest, Seal}
 use Rattle.page_workers.specs.Turns.{IsStopped, turn_images}

@@ -21,7 +21,7 @@ use Rattle.live_lemmas.specs.Builds.{LiveValue, IsRunning, StandsBeside}
 use Rattle.building.specs.BuildingValue.{BuildingValue, WorkValue, IndexValue, with_index, with_pairs, is_unique, work_state, index_state}
 use Rattle.building.specs.WorkOn.{IsCaughtUpTo, IsIndexOn, AreFed}
 use Rattle.live_lemmas.specs.Builds.{core_state}
-use Rattle.page_workers.specs.TakeEnd.{TakeEnd}
+use Rattle.side_file.specs.Ends.{TakeEnd}
 use Rattle.catch_up.specs.Built.{BuiltValue}
 use Rattle.keybytes.specs.Keys.{KeySpecValue}
 use Rattle.side_file.specs.Ends.{PutEnd}

@@ -12,7 +12,7 @@ use Rattle.building.proofs.Looks.{same_rings, same_sent, sealed_looked}
 use Rattle.live_lemmas.specs.Putting.{PagesAreLooked}
 use Rattle.live_lemmas.specs.Rings.{ArePutEnds, PagesFollow}
 use Rattle.heap_log.specs.declared.record.LogRec.{LogRec}
-use Rattle.page_workers.specs.TakeEnd.{PutEndLooked}
+use Rattle.side_file.specs.Ends.{PutEndLooked}
 use Rattle.page_workers.specs.declared.copied.Copied.{Copied}
 use Rattle.side_file.specs.Ends.{PutEnd, RingId}
 use Rattle.side_file.specs.declared.entry.Entry.{Entry}

@@ -12,7 +12,7 @@ use Rattle.side_file.specs.Ends.{PutEnd, RingId}
 use Rattle.side_file.specs.Kept.{last_ones}
 use Rattle.side_file.specs.SideFileValue.{SideFileValue}
 use Rattle.side_file.specs.declared.entry.Entry.{Entry}
-use Rattle.page_workers.specs.TakeEnd.{PutEndLooked, TakeEnd}
+use Rattle.side_file.specs.Ends.{PutEndLooked, TakeEnd}
 use Rattle.page_workers.specs.declared.copied.Copied.{Copied}
 use Rattle.build_events.specs.BuildSteps.{OnBuild}
 use Rattle.build_events.specs.CoreState.{BuildState, LiveState}

@@ -30,7 +30,7 @@ use Rattle.catch_up.proofs.Telling.{told_entries, told_to-append}
 use Rattle.page_workers.specs.Copies.{IsFor, images_of}
 use Rattle.page_workers.specs.Holding.{HoldsOpen}
 use Rattle.page_workers.specs.ImagePairs.{HavePairs}
-use Rattle.page_workers.specs.TakeEnd.{TakeEnd}
+use Rattle.side_file.specs.Ends.{TakeEnd}
 use Rattle.page_workers.specs.Taking.{received_images, unsealed_images}
 use Rattle.page_workers.specs.WorkerValue.{IsCounting, WorkerValue}
 use Rattle.page_workers.specs.declared.copied.Copied.{Copied}

@@ -16,7 +16,7 @@ use Rattle.page_workers.specs.Copies.{images_of}
 use Rattle.page_workers.specs.ImagePairs.{HavePairs}
 use Rattle.page_workers.specs.IntakeValue.{IntakeValue}
 use Rattle.page_workers.specs.SpoolValue.{HaveFullOf, SpoolValue, runs_of, spool_value}
-use Rattle.page_workers.specs.TakeEnd.{after_taking}
+use Rattle.side_file.specs.Ends.{after_taking}
 use Rattle.page_workers.specs.Taking.{received_images}
 use Rattle.page_workers.specs.Turns.{StopsIn, least_pairs, turn_images}
 use Rattle.page_workers.specs.Work.{next_images}

@@ -6,7 +6,7 @@ use Rattle.keybytes.specs.Keys.{KeySpecValue}
 use Rattle.heap_log.specs.declared.record.LogRec.{LogRec}
 use Rattle.side_file.specs.Ends.{PutEnd}
 use Rattle.side_file.specs.declared.entry.Entry.{Entry}
-use Rattle.page_workers.specs.TakeEnd.{PutEndLooked}
+use Rattle.side_file.specs.Ends.{PutEndLooked}
 use Rattle.build_events.specs.BuildSteps.{OnBuild}
 use Rattle.build_events.specs.CoreState.{BuildState, CoreState, LiveState}
 use Rattle.build_events.specs.Workers.{all_entries, fed_to, index_at, unfed}

@@ -12,7 +12,7 @@ use Rattle.side_file.specs.Ends.{PutEnd}
 use Rattle.side_file.specs.Entries.{entry_of}
 use Rattle.side_file.specs.declared.entry.Entry.{Entry}
 use Rattle.visibility.specs.SideEntries.{SideEntry}
-use Rattle.page_workers.specs.TakeEnd.{PutEndLooked}
+use Rattle.side_file.specs.Ends.{PutEndLooked}
 use Rattle.build_events.specs.BuildSteps.{after_feed}
 use Rattle.build_events.specs.CoreState.{BuildState, LiveState, scanning_of}
 use Rattle.build_events.specs.SideEntries.{side_entries}

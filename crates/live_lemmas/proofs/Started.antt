@@ -9,7 +9,7 @@ use Rattle.heap_table.specs.Pages.{pages_written}
 use Rattle.scan_range.specs.Cuts.{CutsValue}
 use Rattle.side_file.specs.Ends.{PutEnd, RingId}
 use Rattle.side_file.specs.declared.entry.Entry.{Entry}
-use Rattle.page_workers.specs.TakeEnd.{TakeEnd}
+use Rattle.side_file.specs.Ends.{TakeEnd}
 use Rattle.page_workers.specs.declared.copied.Copied.{Copied}
 use Rattle.live_lemmas.specs.Builds.{LiveValue, StandsBeside}
 use Rattle.building.specs.BuildingValue.{BuildingValue, WorkValue, IndexValue, fresh, fresh_index, intakes}

@@ -8,7 +8,7 @@ use Rattle.keybytes.specs.declared.fault.Fault.{Fault}
 use Rattle.keybytes.specs.declared.fault.Fault.TheVariants.{NoBuild, NotSealed}
 use Rattle.side_file.specs.Ends.{PutEnd, RingId}
 use Rattle.side_file.specs.declared.entry.Entry.{Entry}
-use Rattle.page_workers.specs.TakeEnd.{PutEndLooked}
+use Rattle.side_file.specs.Ends.{PutEndLooked}
 use Rattle.page_workers.specs.WorkerValue.{IsHolding, WorkerValue}
 use Rattle.page_workers.specs.declared.copied.Copied.{Copied}
 use Rattle.build_events.specs.BuildSteps.{OnBuild}

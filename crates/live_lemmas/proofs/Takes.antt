@@ -11,7 +11,7 @@ use Rattle.page_workers.specs.Copies.{images_of}
 use Rattle.page_workers.specs.Holding.{HoldsPairs}
 use Rattle.page_workers.specs.SpoolValue.{stakes_of}
 use Rattle.page_workers.specs.Taking.{received_images}
-use Rattle.page_workers.specs.TakeEnd.{TakeEnd}
+use Rattle.side_file.specs.Ends.{TakeEnd}
 use Rattle.page_workers.specs.WorkerValue.{WorkerValue}
 use Rattle.page_workers.specs.declared.copied.Copied.{Copied}
 use Rattle.live_lemmas.specs.Builds.{LiveValue, IsRunning, StandsBeside}

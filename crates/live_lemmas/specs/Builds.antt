@@ -11,7 +11,7 @@ use Rattle.heap_table.specs.HeapState.{HeapState}
 use Rattle.side_file.specs.Ends.{PutEnd, RingId}
 use Rattle.side_file.specs.declared.entry.Entry.{Entry}
 use Rattle.side_file.specs.Entries.{entry_of}
-use Rattle.page_workers.specs.TakeEnd.{TakeEnd}
+use Rattle.side_file.specs.Ends.{TakeEnd}
 use Rattle.page_workers.specs.WorkerValue.{IsHolding, WorkerValue}
 use Rattle.page_workers.specs.declared.copied.Copied.{Copied}
 use Rattle.build_events.specs.CoreState.{BuildState, LiveState, CoreState, scanning_of, live_with_heap}

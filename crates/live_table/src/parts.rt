@@ -1,5 +1,4 @@
-ghost use Rattle.std.specs.Prelude.{◌≡◌, [], All, None, length, map, IfOk, IfErr};
-ghost use Rattle.page_workers.specs.TakeEnd.{take_end};
+ghost use Rattle.std.specs.Prelude.{◌≡◌, [], All, None, length, IfOk, IfErr};
 ghost use Rattle.building.specs.Rings.{put_rings, take_rings, all_sent, AreOfBuilds};
 ghost use Rattle.table_scan.specs.SideFiles.{side_rings, taken_rings, put_ends};
 
@@ -7,8 +6,7 @@ use crate::{Ends, Live, TableRings};
 use heap_table::Heap;
 use keybytes::Fault;
 use page_workers::{Intake, PagePutter, page_ring};
-use rtrb::Consumer;
-use side_file::{Entry, SideFile};
+use side_file::{EntryEnd, SideFile};
 use std::alloc::Global;
 use std::marker::Model;
 
@@ -25,7 +23,7 @@ pub struct Parts {
     pages: Vec<PagePutter>,
     intakes: Vec<Intake>,
     sides: Vec<SideFile>,
-    side_ends: Vec<Consumer<Entry>>,
+    side_ends: Vec<EntryEnd>,
 }
 
 impl Drop for Parts {
@@ -46,8 +44,7 @@ impl Model for Parts {
 
     ghost Value = { PartsValue };
 
-    ghost use Rattle.std.specs.Prelude.{◌≡◌, [], All, map};
-    ghost use Rattle.page_workers.specs.TakeEnd.{take_end};
+    ghost use Rattle.std.specs.Prelude.{◌≡◌, [], All};
     ghost use Rattle.table_scan.specs.SideFiles.{put_ends, side_rings};
     ghost use Rattle.building.specs.Rings.{put_rings, all_sent, AreTakeEnds, AreOfBuilds};
     ghost use Rattle.live_lemmas.specs.Rings.{ArePutEnds};
@@ -60,7 +57,7 @@ impl Model for Parts {
 
     ghost invariant = { λ parts. ArePutEnds (put_rings parts.pages.items) (side_rings (put_ends parts.sides.items)) parts.pages.items
         (put_ends parts.sides.items)
-        × AreTakeEnds (put_rings parts.pages.items) (side_rings (put_ends parts.sides.items)) parts.intakes.items (map take_end parts.side_ends.items)
+        × AreTakeEnds (put_rings parts.pages.items) (side_rings (put_ends parts.sides.items)) parts.intakes.items parts.side_ends.items
         × AreOfBuilds 0 (all_sent parts.pages.items)
         × All (λ end. end.sent ≡ []) parts.pages.items × All (λ end. end.sent ≡ []) (put_ends parts.sides.items) };
 }
@@ -138,8 +135,8 @@ fn page_rings(alloc: Global) -> Result<(Vec<PagePutter>, Vec<Intake>), Fault>
 }
 
 /// New side-files, each with the other end of its ring.
-fn entry_rings(alloc: Global) -> Result<(Vec<SideFile>, Vec<Consumer<Entry>>), Fault>
-    ensures rings { IfOk result (λ rings. side_rings (put_ends rings.0.items) ≡ taken_rings (map take_end rings.1.items)) }
+fn entry_rings(alloc: Global) -> Result<(Vec<SideFile>, Vec<EntryEnd>), Fault>
+    ensures rings { IfOk result (λ rings. side_rings (put_ends rings.0.items) ≡ taken_rings rings.1.items) }
     ensures eight { IfOk result (λ rings. length rings.0.items ≡ 8) }
     ensures no_entries { IfOk result (λ rings. All (λ end. end.sent ≡ []) (put_ends rings.0.items)) }
     ensures memory { IfErr result (λ fault. fault ≡ Fault.Memory) }

@@ -8,7 +8,7 @@ use Rattle.keybytes.specs.declared.kind.Kind.{Kind}
 use Rattle.heap_table.specs.Images.{ImageValue}
 use Rattle.page_workers.specs.declared.copied.Copied.{Copied}
 use Rattle.page_workers.specs.Copies.{is_for, images_of}
-use Rattle.page_workers.specs.TakeEnd.{TakeEnd, after_taking}
+use Rattle.side_file.specs.Ends.{TakeEnd, after_taking}
 use Rattle.page_workers.specs.IntakeValue.{IntakeValue}
 use Rattle.page_workers.specs.Work.{StopsAt, next_images, after_digest}
 use Rattle.page_workers.proofs.ManyPairs.{images-append, images_few}

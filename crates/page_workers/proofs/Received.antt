@@ -17,7 +17,7 @@ use Rattle.page_workers.specs.ImagePairs.{HavePairs}
 use Rattle.page_workers.specs.IntakeValue.{IntakeValue}
 use Rattle.page_workers.specs.SpoolValue.{SpoolValue}
 use Rattle.page_workers.specs.Taking.{received_images}
-use Rattle.page_workers.specs.TakeEnd.{TakeEnd, after_taking}
+use Rattle.side_file.specs.Ends.{TakeEnd, after_taking}
 use Rattle.page_workers.specs.Turns.{AreHeldWithTaken}
 use Rattle.page_workers.specs.Work.{next_images}
 use Rattle.page_workers.specs.WorkerValue.{IsHolding, holdings}

@@ -18,7 +18,7 @@ use Rattle.page_workers.specs.declared.copied.Copied.{Copied}
 use Rattle.page_workers.specs.Copies.{IsFor, is_for, images_of}
 use Rattle.page_workers.specs.Holding.{HoldsPairs, HoldsOpen}
 use Rattle.page_workers.specs.ImagePairs.{HavePairs}
-use Rattle.page_workers.specs.TakeEnd.{TakeEnd}
+use Rattle.side_file.specs.Ends.{TakeEnd}
 use Rattle.page_workers.specs.Taking.{IsTaking, received_images, unsealed_images}
 use Rattle.page_workers.specs.Work.{at_start, knowing, next_images, after_digest, after_seal}
 use Rattle.page_workers.specs.IntakeValue.{IntakeValue}

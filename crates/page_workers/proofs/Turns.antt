@@ -9,7 +9,7 @@ use Rattle.page_workers.specs.declared.turn.Turn.{Turn}
 use Rattle.page_workers.specs.declared.turn.Turn.TheVariants.{Digest, Seal}
 use Rattle.run_maker.specs.Making.{MakerValue}
 use Rattle.page_workers.specs.IntakeValue.{IntakeValue}
-use Rattle.page_workers.specs.TakeEnd.{after_taking}
+use Rattle.side_file.specs.Ends.{after_taking}
 use Rattle.page_workers.specs.Turns.{StopsIn, after_turn}
 use Rattle.page_workers.specs.Work.{image_behind}
 use Rattle.page_workers.specs.WorkerValue.{IsCounting}

@@ -1,7 +1,7 @@
 -- A worker's end of its ring as its callers see it, and how far it is.
 use Rattle.std.specs.Prelude.{ℕ}
 use Rattle.page_workers.specs.declared.copied.Copied.{Copied}
-use Rattle.page_workers.specs.TakeEnd.{TakeEnd}
+use Rattle.side_file.specs.Ends.{TakeEnd}
 
 -- the number of its build, its end of its ring, how many copies of its build it took, and how many of these when it last sealed
 pub record IntakeValue : Type 0 where

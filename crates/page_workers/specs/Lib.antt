@@ -1,7 +1,7 @@
 pub mod Copies
 pub mod Holding
 pub mod ImagePairs
-pub mod TakeEnd
+pub mod Places
 pub mod Taking
 pub mod Work
 pub mod IntakeValue

@@ -16,7 +16,7 @@ use Rattle.page_workers.specs.declared.turn.Turn.TheVariants.{Digest, Seal}
 use Rattle.page_workers.specs.Holding.{AreHeldWith, HoldsMore, TakesAll, TakesUpTo}
 use Rattle.page_workers.specs.IntakeValue.{IntakeValue}
 use Rattle.page_workers.specs.SpoolValue.{HaveFullOf, open_runs_of, runs_of}
-use Rattle.page_workers.specs.TakeEnd.{after_taking}
+use Rattle.side_file.specs.Ends.{after_taking}
 use Rattle.page_workers.specs.Work.{SeesMore, StopsAt, after_digest, after_seal, image_behind, next_images}
 use Rattle.page_workers.specs.WorkerValue.{HasReceived, IsShortage, SameWorker, WorkerValue, holdings}
 

@@ -4,7 +4,7 @@ use Rattle.keybytes.specs.declared.kind.Kind.{Kind}
 use Rattle.heap_table.specs.Images.{ImageValue}
 use Rattle.page_workers.specs.declared.copied.Copied.{Copied}
 use Rattle.page_workers.specs.Copies.{images_of}
-use Rattle.page_workers.specs.TakeEnd.{TakeEnd, after_taking}
+use Rattle.side_file.specs.Ends.{TakeEnd, after_taking}
 use Rattle.page_workers.specs.IntakeValue.{IntakeValue}
 
 -- a build begins: nothing of it is taken

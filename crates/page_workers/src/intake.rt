@@ -7,7 +7,7 @@ ghost use Rattle.run_maker.specs.FullSpools.{HasFullOf};
 ghost use Rattle.run_maker.specs.Making.{AreReady};
 ghost use Rattle.run_maker.specs.Spooling.{MemoryOnlyIf};
 ghost use Rattle.page_workers.specs.Holding.{AreHeldWith, TakesAll, TakesUpTo, HoldsMore};
-ghost use Rattle.page_workers.specs.TakeEnd.{take_end, PutEndLooked};
+ghost use Rattle.side_file.specs.Ends.{take_end, PutEndLooked};
 ghost use Rattle.page_workers.specs.Turns.{AreHeldWithTaken, HoldsPart, StopsIn, TurnHolds, least_pairs, after_turn, marked, turn_images};
 ghost use Rattle.page_workers.specs.Work.{at_start, IsIntake, SeesMore, StopsAt, knowing, next_images, after_digest, after_seal};
 ghost use Rattle.page_workers.specs.WorkerValue.{IsShortage};
@@ -45,7 +45,7 @@ impl Model for Intake {
     ghost Value = { IntakeValue };
 
     ghost use Rattle.std.specs.Prelude.{◌≤◌};
-    ghost use Rattle.page_workers.specs.TakeEnd.{take_end};
+    ghost use Rattle.side_file.specs.Ends.{take_end};
 
     ghost view = { λ worker. record {
       build = worker.build;

@@ -1,7 +1,8 @@
 ghost use Rattle.std.specs.Prelude.{◌≡◌, ◌+◌, ◌<◌, ◌≤◌, ◌↔◌, [], ◌∷◌, ◌++◌, length, true, IsTrue, IfOk, IfErr};
 ghost use Rattle.rtrb.specs.Ring.{received, known_items, ConsumerLooked};
 ghost use Rattle.side_file.specs.Ends.{ring_take};
-ghost use Rattle.page_workers.specs.TakeEnd.{HasFourPlaces, PutEndLooked};
+ghost use Rattle.side_file.specs.Ends.{PutEndLooked};
+ghost use Rattle.page_workers.specs.Places.{HasFourPlaces};
 
 use crate::Copied;
 use keybytes::Fault;

@@ -1,6 +1,6 @@
 ghost use Rattle.std.specs.Prelude.{◌≡◌, ◌+◌, ◌++◌, ◌<◌, ◌≤◌, [], All, length, map, true, false, None, IfSome};
 ghost use Rattle.page_workers.specs.SpoolValue.{spool_value};
-ghost use Rattle.page_workers.specs.TakeEnd.{PutEndLooked};
+ghost use Rattle.side_file.specs.Ends.{PutEndLooked};
 ghost use Rattle.page_workers.specs.Work.{at_start, knowing};
 ghost use Rattle.page_workers.specs.WorkerValue.{IsCounting, IsHolding, IsShortage};
 

@@ -52,3 +52,8 @@ pub record Looks (old new : SideFileValue) : Type 0 where
   pub capacity : new.end.capacity ≡ old.end.capacity
   pub sent : new.end.sent ≡ old.end.sent
   pub free : old.end.free ≤ new.end.free
+
+-- of so many entries that are left the first are taken by whole chunks: all of them, if they are no more than the most, else more than that less a chunk
+pub record TakesMost (most left count : ℕ) : Type 0 where
+  pub all : left ≤ most → count ≡ left
+  pub stops : count < left → most < count + 1024

@@ -1,5 +1,9 @@
 pub mod Changes
 pub mod Ends
 pub mod Entries
+pub mod EntryEnds
 pub mod Kept
+pub mod Portions
+pub mod QueueValue
+pub mod Queues
 pub mod SideFileValue

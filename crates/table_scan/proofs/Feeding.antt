@@ -17,7 +17,7 @@ use Rattle.side_file.specs.Ends.{PutEnd}
 use Rattle.side_file.specs.Kept.{last_ones}
 use Rattle.side_file.specs.SideFileValue.{SideFileValue}
 use Rattle.side_file.specs.declared.entry.Entry.{Entry}
-use Rattle.page_workers.specs.TakeEnd.{TakeEnd}
+use Rattle.side_file.specs.Ends.{TakeEnd}
 use Rattle.table_scan.specs.TableBuilds.{IsBuildOf}
 use Rattle.build_events.specs.CoreState.{BuildState, scanning_of}
 use Rattle.table_scan.specs.SideFiles.{IsFed, EachEntryOnce, HasEntries, HaveEntries, SidesFollow, AreFedEntries, SeesSide, own_entries, put_ends}

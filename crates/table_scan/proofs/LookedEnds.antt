@@ -3,7 +3,7 @@ use Rattle.std.proofs.Common.{◌≡◌, ℕ, zero, suc, List, [], ◌∷◌, ma
 use Rattle.std.specs.List.{AllZip, slice_get}
 use Rattle.std.proofs.lemmas.Option.{same_Some}
 use Rattle.side_file.specs.Ends.{PutEnd}
-use Rattle.page_workers.specs.TakeEnd.{PutEndLooked}
+use Rattle.side_file.specs.Ends.{PutEndLooked}
 
 module _ {T : Type 0} where
   -- one that nobody looked at

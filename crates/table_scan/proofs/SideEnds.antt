@@ -5,12 +5,9 @@ use Rattle.keybytes.specs.declared.fault.Fault.TheVariants.{BadCount}
 use Rattle.build_events.specs.CoreState.{BuildState}
 use Rattle.build_events.specs.BuildSteps.{cause_if, index_refusal}
 use Rattle.std.specs.List.{slice_get}
-use Rattle.std.specs.declared.alloc.Global.{Global}
-use Rattle.rtrb.specs.declared.consumer.Consumer.{Consumer}
-use Rattle.side_file.specs.Ends.{PutEnd, RingId, ring_take}
+use Rattle.side_file.specs.Ends.{PutEnd, RingId, TakeEnd}
 use Rattle.side_file.specs.SideFileValue.{SideFileValue}
 use Rattle.side_file.specs.declared.entry.Entry.{Entry}
-use Rattle.page_workers.specs.TakeEnd.{TakeEnd, take_end}
 use Rattle.heap_log.specs.declared.record.LogRec.{LogRec}
 use Rattle.table_scan.specs.SideFiles.{side_rings, taken_rings, SidesFollow, put_ends, side_refusal}
 use Rattle.page_workers.proofs.Places.{as_long, at_index, at_set, both_at, kept, mapped}
@@ -33,18 +30,17 @@ sides_looked log (Some b) sides index old new there fed left sent has = λ k spe
   | inr other ↦ has k spec side at other.1
 ]
 
-module _ {P : Type 0} where
-  -- both ends in one place are of one ring
-  pub paired :
-      (entry_rings : List RingId) (sides : List SideFileValue) (ends : List (Consumer Entry Global P)) (index : ℕ) (side : SideFileValue) (end : Consumer Entry Global P)
-      → side_rings (put_ends sides) ≡ entry_rings → taken_rings (map take_end ends) ≡ entry_rings → index < length sides → index < length ends
-      → side ≡ get_or sides index side → end ≡ get_or ends index end → side.end.ring ≡ ring_take end
-  paired entry_rings sides ends index side end puts takes less below at there =
-      let same : map (λ (s : SideFileValue). s.end.ring) sides ≡ map (λ (c : Consumer Entry Global P). ring_take c) ends =
-      sym (mapped (λ (s : SideFileValue). s.end) (λ (e : PutEnd Entry). e.ring) sides) ∙ puts ∙ sym takes
-      ∙ mapped (λ (c : Consumer Entry Global P). take_end c) (λ (e : TakeEnd Entry). e.ring) ends in
-      ap (λ (s : SideFileValue). s.end.ring) at ∙ both_at (λ (s : SideFileValue). s.end.ring) (λ (c : Consumer Entry Global P). ring_take c) sides ends index side end same less below
-      ∙ ap (λ (c : Consumer Entry Global P). ring_take c) (sym there)
+-- both ends in one place are of one ring
+pub paired :
+    (entry_rings : List RingId) (sides : List SideFileValue) (ends : List (TakeEnd Entry)) (index : ℕ) (side : SideFileValue) (end : TakeEnd Entry)
+    → side_rings (put_ends sides) ≡ entry_rings → taken_rings ends ≡ entry_rings → index < length sides → index < length ends
+    → side ≡ get_or sides index side → end ≡ get_or ends index end → side.end.ring ≡ end.ring
+paired entry_rings sides ends index side end puts takes less below at there =
+    let same : map (λ (s : SideFileValue). s.end.ring) sides ≡ map (λ (e : TakeEnd Entry). e.ring) ends =
+    sym (mapped (λ (s : SideFileValue). s.end) (λ (e : PutEnd Entry). e.ring) sides) ∙ puts ∙ sym takes in
+    ap (λ (s : SideFileValue). s.end.ring) at
+    ∙ both_at (λ (s : SideFileValue). s.end.ring) (λ (e : TakeEnd Entry). e.ring) sides ends index side end same less below
+    ∙ ap (λ (e : TakeEnd Entry). e.ring) (sym there)
 
 -- a side-file that changes keeps its ring
 pub rings_stay :
@@ -55,23 +51,18 @@ rings_stay sides entry_rings index old new are at ring =
     ∙ kept (λ (s : SideFileValue). s.end.ring) sides entry_rings index new old
     (sym (mapped (λ (s : SideFileValue). s.end) (λ (e : PutEnd Entry). e.ring) sides) ∙ are) (ring ∙ ap (λ (s : SideFileValue). s.end.ring) at)
 
-module _ {P : Type 0} where
-  pub taken_stay :
-      (ends : List (Consumer Entry Global P)) (entry_rings : List RingId) (index : ℕ) (old new : Consumer Entry Global P)
-      → taken_rings (map take_end ends) ≡ entry_rings → old ≡ get_or ends index old → ring_take new ≡ ring_take old
-      → taken_rings (map take_end (set ends index new)) ≡ entry_rings
-  taken_stay ends entry_rings index old new are at ring =
-      mapped (λ (c : Consumer Entry Global P). take_end c) (λ (e : TakeEnd Entry). e.ring) (set ends index new)
-      ∙ kept (λ (c : Consumer Entry Global P). ring_take c) ends entry_rings index new old
-      (sym (mapped (λ (c : Consumer Entry Global P). take_end c) (λ (e : TakeEnd Entry). e.ring) ends) ∙ are) (ring ∙ ap (λ (c : Consumer Entry Global P). ring_take c) at)
+pub taken_stay :
+    (ends : List (TakeEnd Entry)) (entry_rings : List RingId) (index : ℕ) (old new : TakeEnd Entry) → taken_rings ends ≡ entry_rings
+    → old ≡ get_or ends index old → new.ring ≡ old.ring → taken_rings (set ends index new) ≡ entry_rings
+taken_stay ends entry_rings index old new are at ring =
+    kept (λ (e : TakeEnd Entry). e.ring) ends entry_rings index new old are (ring ∙ ap (λ (e : TakeEnd Entry). e.ring) at)
 
-  -- as many side-files as other ends of their rings
-  pub as_many :
-      (sides : List SideFileValue) (ends : List (Consumer Entry Global P)) → side_rings (put_ends sides) ≡ taken_rings (map take_end ends) → length sides ≡ length ends
-  as_many sides ends same =
-      as_long (λ (s : SideFileValue). s.end.ring) (λ (c : Consumer Entry Global P). ring_take c) sides ends
-      (sym (mapped (λ (s : SideFileValue). s.end) (λ (e : PutEnd Entry). e.ring) sides) ∙ same
-      ∙ mapped (λ (c : Consumer Entry Global P). take_end c) (λ (e : TakeEnd Entry). e.ring) ends)
+-- as many side-files as other ends of their rings
+pub as_many :
+    (sides : List SideFileValue) (ends : List (TakeEnd Entry)) → side_rings (put_ends sides) ≡ taken_rings ends → length sides ≡ length ends
+as_many sides ends same =
+    as_long (λ (s : SideFileValue). s.end.ring) (λ (e : TakeEnd Entry). e.ring) sides ends
+    (sym (mapped (λ (s : SideFileValue). s.end) (λ (e : PutEnd Entry). e.ring) sides) ∙ same)
 
 -- an index of the running build has its side-file
 pub side_there :

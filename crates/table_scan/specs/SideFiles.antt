@@ -16,7 +16,7 @@ use Rattle.side_file.specs.Entries.{entry_of}
 use Rattle.side_file.specs.SideFileValue.{SideFileValue}
 use Rattle.side_file.specs.declared.entry.Entry.{Entry}
 use Rattle.visibility.specs.SideEntries.{SideEntry, changes}
-use Rattle.page_workers.specs.TakeEnd.{TakeEnd, PutEndLooked}
+use Rattle.side_file.specs.Ends.{TakeEnd, PutEndLooked}
 use Rattle.build_events.specs.CoreState.{BuildState, scanning_of}
 use Rattle.build_events.specs.Scanning.{scanned_at}
 use Rattle.build_events.specs.SideEntries.{side_entries}

@@ -1,7 +1,7 @@
 //! The cases of side-files, and of what their entries make of an index.
 
 use super::Short;
-use super::Step::{Append, Apply, Counts, Feed, Pages, Reset, Take};
+use super::Step::{Append, Apply, ApplyBatch, Counts, Feed, FeedBatch, Pages, Reset, Take};
 use crate::cases::{Case, DONE, Layer};
 use side_file::Op::{Delete, Insert};
 
@@ -26,7 +26,7 @@ const TEN: [Short; 10] = [
     (7, Insert, b'a', 9),
 ];
 
-pub static CASES: [Case; 13] = [
+pub static CASES: [Case; 17] = [
     Case {
         name: "a reset drops what is left",
         layer: Layer::Entries(&[
@@ -183,6 +183,62 @@ pub static CASES: [Case; 13] = [
             Feed(256, 10),
             Apply(256, 10),
             Pages(&[0, 1, 2, 3, 4, 5, 6, 7, 8, 9]),
+        ]),
+        told: DONE,
+    },
+    Case {
+        name: "a batch is all that is left",
+        layer: Layer::Entries(&[
+            Append(&FIVE),
+            Feed(1, 1),
+            FeedBatch(9, 4),
+            Counts(5, 0, 5),
+            ApplyBatch(5),
+            Counts(5, 0, 0),
+            Pages(&[0, 2, 4]),
+        ]),
+        told: DONE,
+    },
+    Case {
+        name: "entries of one pair stay in order in a batch",
+        layer: Layer::Entries(&[
+            Append(&[
+                (7, Insert, b'b', 0),
+                (7, Insert, b'a', 1),
+                (7, Delete, b'b', 0),
+                (7, Insert, b'b', 2),
+                (8, Insert, b'a', 9),
+                (7, Delete, b'a', 1),
+                (7, Insert, b'a', 1),
+            ]),
+            FeedBatch(9, 7),
+            ApplyBatch(7),
+            Pages(&[1, 2]),
+        ]),
+        told: DONE,
+    },
+    Case {
+        name: "a batch takes no part of a chunk",
+        layer: Layer::Entries(&[
+            Append(&FIVE),
+            FeedBatch(4, 0),
+            Counts(0, 5, 0),
+            FeedBatch(5, 5),
+            Counts(5, 0, 5),
+        ]),
+        told: DONE,
+    },
+    Case {
+        name: "a batch is taken one by one",
+        layer: Layer::Entries(&[
+            Append(&FIVE),
+            FeedBatch(9, 5),
+            Take(&[(7, Insert, b'a', 0), (7, Delete, b'a', 1)]),
+            Append(&[(7, Insert, b'a', 5)]),
+            Feed(1, 1),
+            Counts(6, 0, 4),
+            Apply(256, 4),
+            Pages(&[2, 4, 5]),
         ]),
         told: DONE,
     },

@@ -4,7 +4,7 @@ ghost use Rattle.std.specs.List.{AllZip, list_all, list_any};
 ghost use Rattle.keybytes.specs.Answered.{Answered};
 ghost use Rattle.side_file.specs.Ends.{PutEnd};
 ghost use Rattle.heap_table.specs.Pages.{pages_written};
-ghost use Rattle.page_workers.specs.TakeEnd.{PutEndLooked};
+ghost use Rattle.side_file.specs.Ends.{PutEndLooked};
 ghost use Rattle.page_workers.specs.declared.copied.Copied.{Copied};
 ghost use Rattle.building.specs.BuildingValue.{BuildingValue, given_up, intakes};
 ghost use Rattle.live_lemmas.specs.Builds.{core_state, put_refusal, page_refusal, StandsBeside};

@@ -6,7 +6,7 @@ ghost use Rattle.heap_table.specs.HeapState.{HeapState, after_switch, busy_txns}
 ghost use Rattle.keybytes.specs.Keys.{are_key_columns};
 ghost use Rattle.heap_table.specs.Pages.{KeepsRows};
 ghost use Rattle.live_lemmas.specs.Builds.{core_state, cause_of, StandsBeside};
-ghost use Rattle.page_workers.specs.TakeEnd.{PutEndLooked};
+ghost use Rattle.side_file.specs.Ends.{PutEndLooked};
 ghost use Rattle.live_lemmas.specs.Putting.{SendsAll, SendsNext, SendsOn};
 ghost use Rattle.live_lemmas.specs.Switching.{HaveAll, IsPartOf, RefusesSwitch};
 ghost use Rattle.live_lemmas.specs.CatchingUp.{MayCatchUp, IndexIsFurther, IsDoneIndex, left_at, ready_of};

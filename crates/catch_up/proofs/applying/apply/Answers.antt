@@ -1,6 +1,5 @@
 use Rattle.std.proofs.Common.{rules, Result, Ok, Err, OnErr, ◌≡◌, List, length, take, length-take, arith}
 use Rattle.std.proofs.lemmas.List.{nil_from_length}
-use Rattle.rtrb.specs.Ring.{known_items}
 use Rattle.side_file.specs.declared.entry.Entry.{Entry}
 use Rattle.catch_up.proofs.Taking.{looked_taken, taken_waits, so_far_then}
 use Rattle.catch_up.proofs.applying.apply.Goals as goal
@@ -16,8 +15,8 @@ returns-in_err-take_next c =
     let waits = c.in_err-take_next.ensures.waits in
     record {
       entries = so_far.entries;
-      taken = looked_taken so_far.entries c.args.ring.now c.slots.new.self c.take_next.new.ring c.slots.ensures.looked
-          (taken_waits so_far.entries c.slots.new.self c.loop.ring c.take_next.new.ring so_far.taken waits);
+      taken = looked_taken so_far.entries c.args.end.now c.look.new.self c.take_next.new.end c.look.ensures.looked
+          (taken_waits so_far.entries c.look.new.self c.loop.end c.take_next.new.end so_far.taken waits);
       applied = search rules;
       most = omega (arith, so_far.count, c.loop-test.true, c.min-count.ensures);
       count = search rules;
@@ -29,12 +28,13 @@ returns-in_err-take_next c =
 
 pub loop-preserved : goal.loop-preserved
 loop-preserved c =
-    let known : List Entry = known_items c.loop.ring in
+    let known : List Entry = c.loop.end.known in
     let done = c.in_ok-take_next.ensures in
-    let one : length (take 1 known) ≡ 1 = omega (arith, length-take 1 known, c.loop-test.true, c.loop.invariant.rest, c.min-count.ensures, c.slots.ensures.value) in
+    let one : length (take 1 known) ≡ 1 =
+    omega (arith, length-take 1 known, c.loop-test.true, c.loop.invariant.rest, c.min-count.ensures, c.look.ensures.value) in
     record {
-      so_far = so_far_then c.loop.counter 1 (take 1 known) c.args.built.now c.loop.built c.take_next.new.self c.slots.new.self c.loop.ring
-          c.take_next.new.ring c.loop.invariant.so_far one done.taken done.applied;
+      so_far = so_far_then c.loop.counter 1 (take 1 known) c.args.built.now c.loop.built c.take_next.new.self c.look.new.self c.loop.end
+          c.take_next.new.end c.loop.invariant.so_far one done.taken done.applied;
       rest = omega (arith, done.known, c.loop.invariant.rest);
     }
 
@@ -43,12 +43,12 @@ returns c =
     let so_far = c.loop.invariant.so_far in
     record {
       entries = so_far.entries;
-      taken = looked_taken so_far.entries c.args.ring.now c.slots.new.self c.loop.ring c.slots.ensures.looked so_far.taken;
+      taken = looked_taken so_far.entries c.args.end.now c.look.new.self c.loop.end c.look.ensures.looked so_far.taken;
       applied = so_far.applied;
       most = omega (arith, so_far.count, c.loop.auto, c.min-count.ensures);
       count = search rules;
-      all = λ few. nil_from_length (known_items c.loop.ring) (
-          omega (arith, few, so_far.count, c.loop.auto, c.loop-test.false, c.loop.invariant.rest, c.min-count.ensures, c.slots.ensures.value)
+      all = λ few. nil_from_length c.loop.end.known (
+          omega (arith, few, so_far.count, c.loop.auto, c.loop-test.false, c.loop.invariant.rest, c.min-count.ensures, c.look.ensures.value)
           );
       short = search rules;
       needed = search rules;

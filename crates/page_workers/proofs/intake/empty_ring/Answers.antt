@@ -1,7 +1,7 @@
 use Rattle.std.proofs.Common.{◌≡◌, ◌∙◌, rules, arith, ap, length, sym}
 use Rattle.rtrb.specs.Ring.{received, known_items}
 use Rattle.side_file.specs.Ends.{ring_take}
-use Rattle.page_workers.specs.TakeEnd.{take_end}
+use Rattle.side_file.specs.Ends.{take_end}
 use Rattle.page_workers.proofs.Rings.{all_taken, emptied_end, freed_end, none_left}
 use Rattle.page_workers.proofs.intake.empty_ring.Goals as goal
 

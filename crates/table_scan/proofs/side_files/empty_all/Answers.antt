@@ -1,10 +1,9 @@
 use Rattle.std.proofs.Common.{rules, ◌≡◌, ℕ, ◌<◌, ◌+◌, List, length, map, set, get_or, refl, sym, ap, ◌∙◌, subst, arith}
 use Rattle.std.specs.List.{AllZip}
-use Rattle.std.proofs.lemmas.List.{get_or-map, length-map, length-set, map-set}
-use Rattle.side_file.specs.Ends.{PutEnd}
+use Rattle.std.proofs.lemmas.List.{get_or-map, length-set, map-set}
 use Rattle.side_file.specs.SideFileValue.{SideFileValue}
 use Rattle.side_file.specs.declared.entry.Entry.{Entry}
-use Rattle.page_workers.specs.TakeEnd.{PutEndLooked, TakeEnd, take_end}
+use Rattle.side_file.specs.Ends.{PutEnd, PutEndLooked, TakeEnd}
 use Rattle.page_workers.proofs.Places.{kept}
 use Rattle.table_scan.specs.SideFiles.{taken_rings, put_ends}
 use Rattle.table_scan.proofs.Emptied.{IsEmptied, AreEmptied, more_emptied, all_emptied, all_drained}
@@ -28,7 +27,7 @@ empty_side-requires c =
     let ends = c.loop-index.ends.items in
     let many = as_many sides ends c.loop-index.invariant.other_rings in
     let less : c.loop-index.index < length sides = omega (arith, c.loop-index-test.true, c.loop-index.invariant.many) in
-    paired (taken_rings (map take_end ends)) sides ends c.loop-index.index c.index_mut.result.now c.index_mut-in-loop-index.result.now
+    paired (taken_rings ends) sides ends c.loop-index.index c.index_mut.result.now c.index_mut-in-loop-index.result.now
     c.loop-index.invariant.other_rings refl less (omega (arith, less, many)) c.index_mut.ensures.value c.index_mut-in-loop-index.ensures.value
 
 pub loop-index-preserved : goal.loop-index-preserved
@@ -41,17 +40,16 @@ loop-index-preserved c =
     let end = c.empty_side.new.end in
     let many = as_many sides ends c.loop-index.invariant.other_rings in
     let less : index < length sides = omega (arith, c.loop-index-test.true, c.loop-index.invariant.many) in
-    let same = paired (taken_rings (map take_end ends)) sides ends index old c.index_mut-in-loop-index.result.now c.loop-index.invariant.other_rings refl less
+    let same = paired (taken_rings ends) sides ends index old c.index_mut-in-loop-index.result.now c.loop-index.invariant.other_rings refl less
     (omega (arith, less, many)) c.index_mut.ensures.value c.index_mut-in-loop-index.ensures.value in
-    let emptied : IsEmptied side (take_end end) = record { left = c.empty_side.ensures.left; fed = c.empty_side.ensures.fed; drained = c.empty_side.ensures.drained } in
-    let drained : take_end end ≡ _ = c.empty_side.ensures.drained in
+    let emptied : IsEmptied side end = record { left = c.empty_side.ensures.left; fed = c.empty_side.ensures.fed; drained = c.empty_side.ensures.drained } in
+    let drained : end ≡ _ = c.empty_side.ensures.drained in
     let ring_end = ap (λ (e : TakeEnd Entry). e.ring) drained ∙ c.empty_side.ensures.ring ∙ same in
     let at : old.end ≡ get_or (put_ends sides) index old.end =
     ap (λ (s : SideFileValue). s.end) c.index_mut.ensures.value ∙ sym (get_or-map (λ (s : SideFileValue). s.end) sides index old old.end less) in
     let stay = rings_stay sides _ index old side c.loop-index.invariant.other_rings c.index_mut.ensures.value c.empty_side.ensures.ring in
     record {
-      emptied = subst (AreEmptied (index + 1) (set sides index side)) (sym (map-set take_end ends index end))
-          (more_emptied index sides (map take_end ends) side (take_end end) c.loop-index.invariant.emptied emptied);
+      emptied = more_emptied index sides ends side end c.loop-index.invariant.emptied emptied;
       room = kept (λ (s : SideFileValue). s.room) sides _ index side old c.loop-index.invariant.room
           (c.empty_side.ensures.room ∙ ap (λ (s : SideFileValue). s.room) c.index_mut.ensures.value);
       rings = rings_stay sides _ index old side c.loop-index.invariant.rings c.index_mut.ensures.value c.empty_side.ensures.ring;
@@ -65,15 +63,15 @@ loop-index-preserved c =
 pub returns-clause-left : goal.returns-clause-left
 returns-clause-left c =
     let sides = c.loop-index.sides.items in
-    let ends = map take_end c.loop-index.ends.items in
-    let many = as_many sides c.loop-index.ends.items c.loop-index.invariant.other_rings ∙ sym (length-map c.loop-index.ends.items take_end) in
+    let ends = c.loop-index.ends.items in
+    let many = as_many sides ends c.loop-index.invariant.other_rings in
     let all : c.loop-index.index ≡ length sides = omega (arith, c.loop-index-test.false, c.loop-index.auto.index-end, c.loop-index.invariant.many) in
     all_emptied sides ends many (subst (λ (n : ℕ). AreEmptied n sides ends) all c.loop-index.invariant.emptied)
 
 pub returns-clause-drained : goal.returns-clause-drained
 returns-clause-drained c =
     let sides = c.loop-index.sides.items in
-    let ends = map take_end c.loop-index.ends.items in
-    let many = as_many sides c.loop-index.ends.items c.loop-index.invariant.other_rings ∙ sym (length-map c.loop-index.ends.items take_end) in
+    let ends = c.loop-index.ends.items in
+    let many = as_many sides ends c.loop-index.invariant.other_rings in
     let all : c.loop-index.index ≡ length sides = omega (arith, c.loop-index-test.false, c.loop-index.auto.index-end, c.loop-index.invariant.many) in
     all_drained sides ends many (subst (λ (n : ℕ). AreEmptied n sides ends) all c.loop-index.invariant.emptied)

@@ -3,7 +3,7 @@ use Rattle.std.proofs.lemmas.List.Elements.{All-same}
 use Rattle.page_workers.specs.SpoolValue.{SpoolValue, spool_value}
 use Rattle.side_file.specs.declared.entry.Entry.{Entry}
 use Rattle.catch_up.specs.Built.{told_to}
-use Rattle.page_workers.specs.TakeEnd.{TakeEnd, take_end}
+use Rattle.side_file.specs.Ends.{TakeEnd}
 use Rattle.page_workers.specs.WorkerValue.{WorkerValue}
 use Rattle.building.specs.BuildingValue.{BuildingValue, WorkValue}
 use Rattle.building.specs.Keeping.{KeepsWork}
@@ -15,7 +15,7 @@ pub invariant_of-self : goal.invariant_of-self
 invariant_of-self g c =
     let spool = g.S.Spool in
     let value = spool_value spool.runs spool.open_run spool.stake in
-    let ends : List (TakeEnd Entry) = map take_end c.self.inside.side_ends.items in
+    let ends : List (TakeEnd Entry) = c.self.inside.side_ends.items in
     let workers : List WorkerValue = c.equip.new.workers.items in
     let home = c.replace-spools.new.dest in
     let none : map value home.items ≡ [] = ap (λ v. map value v.items) c.replace-spools.ensures.after ∙ ap (map value) c.requires.home.none in

@@ -1,6 +1,5 @@
 use Rattle.std.proofs.Common.{◌≡◌, ◌≤◌, ◌∙◌, ℕ, Option, None, map, sym, ap, subst}
 use Rattle.page_workers.specs.SpoolValue.{spool_value}
-use Rattle.page_workers.specs.TakeEnd.{take_end}
 use Rattle.building.specs.BuildingValue.{BuildingValue, WorkValue}
 use Rattle.building.specs.Keeping.{KeepsWork}
 use Rattle.building.proofs.Beginning.{ends_emptied, idle_rings}
@@ -27,7 +26,7 @@ invariant_of-self g c =
       c.self.invariant.3,
       c.self.invariant.4,
       c.self.invariant.5,
-      subst (λ (o : Option WorkValue). KeepsWork c.self.inside.workers.items (map take_end c.empty_all.new.ends.items)
+      subst (λ (o : Option WorkValue). KeepsWork c.self.inside.workers.items c.empty_all.new.ends.items
           (map (spool_value g.S.Spool.runs g.S.Spool.open_run g.S.Spool.stake) c.self.inside.spools.items) o) (sym idle) tt,
       c.self.invariant.7,
     )

@@ -12,7 +12,6 @@ use Rattle.building.specs.BuildingValue.{BuildingValue, WorkValue, IsUnloaded, i
 use Rattle.std.specs.List.{slice_get}
 use Rattle.building.specs.Keeping.{KeepsWork}
 use Rattle.page_workers.specs.SpoolValue.{SpoolValue, spool_value}
-use Rattle.page_workers.specs.TakeEnd.{take_end}
 use Rattle.building.proofs.LeftBeside.{load_stopped, stakes_beside, left_sorted, can_load, is_unloaded}
 use Rattle.page_workers.proofs.Places.{there_is}
 use Rattle.building.specs.Holding.{all_spools}
@@ -144,7 +143,7 @@ invariant_of-self-2 g c =
     let spec = there_is c.in-Some.work.specs c.args.index can.there in
     let none = is_unloaded c.in-Some.work c.args.index c.if-is_loaded.ensures it.0 it.1 in
     let seen = sym (column_seen spool.runs spool.open_run spool.stake c.args.index n items) in
-    let kept = loaded_kept workers (map take_end c.self.inside.side_ends.items) (map value items) c.in-Some.work can.kept can.loads c.args.index spec.0 spec.1 it.0
+    let kept = loaded_kept workers c.self.inside.side_ends.items (map value items) c.in-Some.work can.kept can.loads c.args.index spec.0 spec.1 it.0
     it.1 none (map value merged.new.spools.items) built
     (subst (λ (rs : List (List (List Pair))). IsPermutation (all_pairs (all_runs rs)) built.pairs) seen c.in-Ok.ensures.all) c.in-Ok.ensures.order
     c.in-Ok.ensures.build c.in-Ok.ensures.unique c.in-Ok.ensures.ended in (
@@ -154,7 +153,7 @@ invariant_of-self-2 g c =
       λ none. absurd (cc),
       λ given. let none = c.self.invariant.4 given in let some = c.in-Some.is in absurd (cc),
       λ given none. absurd (cc),
-      subst (λ (w : WorkValue). KeepsWork workers (map take_end c.self.inside.side_ends.items) (map value merged.new.spools.items)
+      subst (λ (w : WorkValue). KeepsWork workers c.self.inside.side_ends.items (map value merged.new.spools.items)
           (Some (record w { indexes = set w.indexes c.args.index (record { built = Some built; applied = 0 }) }))) (sym c.work.view_is) kept,
       c.self.invariant.7,
     )

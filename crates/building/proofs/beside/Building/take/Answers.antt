@@ -1,6 +1,5 @@
 use Rattle.std.proofs.Common.{ℕ, ◌<◌, ◌≤◌, List, length, map, Option, vec_capacity, refl, sym, ap, subst, arith}
 use Rattle.page_workers.specs.SpoolValue.{spool_value}
-use Rattle.page_workers.specs.TakeEnd.{take_end}
 use Rattle.page_workers.specs.WorkerValue.{WorkerValue}
 use Rattle.building.specs.BuildingValue.{BuildingValue, WorkValue}
 use Rattle.building.specs.Keeping.{KeepsWork}
@@ -28,8 +27,8 @@ invariant_of-self g c =
       λ none. absurd (cc),
       λ given. let none = c.self.invariant.4 given in let some = c.in-Some.is in absurd (cc),
       λ given none. absurd (cc),
-      turn_kept workers (map take_end c.self.inside.side_ends.items) (map value c.self.inside.spools.items) c.in-Some.work c.note_fault.new.work c.args.worker it after
-          at (subst (λ (o : Option WorkValue). KeepsWork workers (map take_end c.self.inside.side_ends.items) (map value c.self.inside.spools.items) o) c.in-Some.is
+      turn_kept workers c.self.inside.side_ends.items (map value c.self.inside.spools.items) c.in-Some.work c.note_fault.new.work c.args.worker it after
+          at (subst (λ (o : Option WorkValue). KeepsWork workers c.self.inside.side_ends.items (map value c.self.inside.spools.items) o) c.in-Some.is
           c.self.invariant.6) c.args.turn c.take-answer.result c.note_fault.ensures.fine c.note_fault.ensures.spoiled c.take-answer.ensures.done,
       numbered_set workers c.args.worker it after at stays.number c.self.invariant.7,
     )

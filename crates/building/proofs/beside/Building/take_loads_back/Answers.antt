@@ -2,7 +2,6 @@ use Rattle.std.proofs.Common.{◌≡◌, ◌≤◌, ◌∙◌, ◌++◌, ℕ, Li
 use Rattle.std.proofs.lemmas.List.{length-map}
 use Rattle.keybytes.specs.declared.fault.Fault.TheVariants.{Memory}
 use Rattle.page_workers.specs.SpoolValue.{SpoolValue, spool_value}
-use Rattle.page_workers.specs.TakeEnd.{take_end}
 use Rattle.index_load.specs.IndexLoad.{IndexLoadValue, without_spools}
 use Rattle.building.specs.BuildingValue.{BuildingValue, IndexValue}
 use Rattle.building.specs.Holding.{all_spools}
@@ -33,7 +32,7 @@ module _ (g : given.Over) (c : After-take_home-work-inside g) where
   seen = record {
     workers = c.self.inside.workers.items;
     idle = c.self.inside.idle.items;
-    sides = map take_end c.self.inside.side_ends.items;
+    sides = c.self.inside.side_ends.items;
     spools = map (spool_value g.S.Spool.runs g.S.Spool.open_run g.S.Spool.stake) c.self.inside.spools.items;
     given = c.self.inside.given;
     work = c.self.inside.work;

@@ -4,7 +4,6 @@ use Rattle.std.proofs.lemmas.Option.{same_Some}
 use Rattle.keybytes.specs.declared.fault.Fault.{Fault}
 use Rattle.page_workers.specs.IntakeValue.{IntakeValue}
 use Rattle.page_workers.specs.SpoolValue.{SpoolValue, spool_value}
-use Rattle.page_workers.specs.TakeEnd.{take_end}
 use Rattle.page_workers.specs.WorkerValue.{WorkerValue}
 use Rattle.building.specs.BuildingValue.{BuildingValue, WorkValue}
 use Rattle.building.specs.Holding.{all_spools}
@@ -19,7 +18,7 @@ invariant_of-result g c =
     let value = spool_value spool.runs spool.open_run spool.stake in
     let workers : List WorkerValue = c.args.workers.items in
     let idle : List IntakeValue = c.self.inside.idle.items in
-    let ends = map take_end c.self.inside.side_ends.items in
+    let ends = c.self.inside.side_ends.items in
     let work : WorkValue = c.self.inside.work in
     let stays = c.self.invariant.0 in
     let same : c.requires.work ≡ work =

@@ -7,7 +7,7 @@ use Rattle.keybytes.specs.declared.fault.Fault.TheVariants.{RingFull}
 use Rattle.heap_table.specs.HeapState.{HeapState}
 use Rattle.heap_table.specs.Pages.{pages_written}
 use Rattle.side_file.specs.Ends.{PutEnd}
-use Rattle.page_workers.specs.TakeEnd.{PutEndLooked}
+use Rattle.side_file.specs.Ends.{PutEndLooked}
 use Rattle.page_workers.specs.declared.copied.Copied.{Copied}
 use Rattle.live_lemmas.specs.Builds.{LiveValue, StandsBeside, full_refusal, put_refusal}
 use Rattle.building.specs.WorkOn.{WorkMatches, WorkersFollow}

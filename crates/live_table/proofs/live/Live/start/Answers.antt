@@ -6,7 +6,7 @@ use Rattle.keybytes.specs.Keys.{KeySpecValue}
 use Rattle.keybytes.specs.declared.kind.Kind.{Kind}
 use Rattle.heap_table.specs.Pages.{pages_written}
 use Rattle.scan_range.specs.Cuts.{CutsValue}
-use Rattle.page_workers.specs.TakeEnd.{PutEndLooked, TakeEnd}
+use Rattle.side_file.specs.Ends.{PutEndLooked, TakeEnd}
 use Rattle.live_lemmas.specs.Builds.{LiveValue}
 use Rattle.building.specs.BuildingValue.{BuildingValue, WorkValue, work_state, fresh}
 use Rattle.table_scan.specs.TableBuilds.{build_over}

@@ -3,7 +3,7 @@ use Rattle.std.proofs.lemmas.List.{length-map}
 use Rattle.side_file.specs.Ends.{PutEnd}
 use Rattle.side_file.specs.SideFileValue.{SideFileValue}
 use Rattle.side_file.specs.declared.entry.Entry.{Entry}
-use Rattle.page_workers.specs.TakeEnd.{TakeEnd, take_end}
+use Rattle.side_file.specs.Ends.{TakeEnd}
 use Rattle.page_workers.specs.IntakeValue.{IntakeValue}
 use Rattle.page_workers.specs.declared.copied.Copied.{Copied}
 use Rattle.std.specs.Prelude.{map}
@@ -19,7 +19,7 @@ invariant_of-result c =
     let entries = c.in-Ok-entry_rings.rings in
     let same_entries = c.in-Ok-entry_rings.ensures.rings in
     let eight = length-map entries.0.items (λ (side : SideFileValue). side.end) ∙ c.in-Ok-entry_rings.ensures.eight in
-    let as_many = as_long (λ (end : PutEnd Entry). end.ring) (λ (end : TakeEnd Entry). end.ring) (put_ends entries.0.items) (map take_end entries.1.items) same_entries in (
+    let as_many = as_long (λ (end : PutEnd Entry). end.ring) (λ (end : TakeEnd Entry). end.ring) (put_ends entries.0.items) entries.1.items same_entries in (
       record { pages_are = refl; sides_are = refl; sixteen = c.in-Ok.ensures.sixteen; eight = eight },
       record { intakes_are = sym same; sides_are = sym same_entries; sixteen = sym long ∙ c.in-Ok.ensures.sixteen; eight = sym as_many ∙ eight },
       c.in-Ok.ensures.unused,
