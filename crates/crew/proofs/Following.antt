@@ -1,16 +1,16 @@
 -- How a build goes on that follows those who write.
-use Rattle.std.proofs.Common.{◌≡◌, ℕ, ◌<◌, ◌≤◌, true, List, length, map, Option, Some, None, sym, ap, ◌∙◌, subst, arith}
+use Rattle.std.proofs.Common.{◌≡◌, ℕ, ◌<◌, ◌≤◌, true, List, length, map, Option, Some, None, refl, sym, ap, ◌∙◌, subst, arith}
 use Rattle.std.specs.List.{slice_get}
 use Rattle.std.specs.Prelude.{IfSome}
 use Rattle.std.proofs.lemmas.Option.{get_or_from_slice_get}
 use Rattle.keybytes.specs.Keys.{KeySpecValue}
 use Rattle.build_events.specs.BuildSteps.{AreFurther, CatchesUp, OnBuild}
 use Rattle.build_events.specs.CoreState.{BuildState, CoreState, IndexState, WorkState}
-use Rattle.build_events.specs.Workers.{index_at}
+use Rattle.build_events.specs.Workers.{in_ring, index_at}
 use Rattle.building.proofs.OneWorker.{the_work}
 use Rattle.building.specs.BuildingValue.{BuildingValue, IndexValue, WorkValue, index_state}
 use Rattle.live_lemmas.specs.Builds.{LiveValue, StandsBeside, core_state}
-use Rattle.live_lemmas.specs.Settling.{OnlyFeeds, Settles}
+use Rattle.live_lemmas.specs.Settling.{IsSettled, OnlyFeeds, Settles}
 use Rattle.live_lemmas.specs.Switching.{IsPartOf}
 use Rattle.page_workers.proofs.Places.{below, map_at, there_is}
 use Rattle.crew.specs.Credits.{indexes_of_build}
@@ -115,6 +115,25 @@ module _ (live new_live : LiveValue) (building new : BuildingValue) where
 
   pub fed_indexes : OnlyFeeds s t → indexes_of_build new_live.state.build ≡ indexes_of_build live.state.build
   fed_indexes feeds = ap (λ (x : CoreState). indexes_of_build x.live.build) feeds.new_is ∙ sym (ap indexes_of_build feeds.runs)
+
+-- a build that goes on has the indexes that stand beside its table
+pub indexes_beside :
+    (live : LiveValue) (building : BuildingValue) → StandsBeside live building → IsSettled (core_state live building) → (count : ℕ) (specs : List KeySpecValue)
+    → GoesOnWith count specs building → indexes_of_build live.state.build ≡ length specs
+indexes_beside live building works settled count specs on = by_build live.state.build refl settled where
+  by_build :
+      (o : Option BuildState) → live.state.build ≡ o
+      → OnBuild o (λ b. (index : ℕ) → index < length b.specs → in_ring b (core_state live building).work index ≡ 0) → indexes_of_build o ≡ length specs
+  by_build None is runs = absurd runs
+  by_build (Some b) is runs =
+      let was = work_there live.state.heap.schema live.state.heap.log live.state.build b building.work is works.work in
+      let its : was.0 ≡ on.work = the_work building.work was.0 on.work was.1 on.runs in
+      ap length (was.2.specs ∙ ap (λ (x : WorkValue). x.specs) its ∙ on.specs_are)
+
+-- there are as many batches as the build has indexes
+pub one_each : (o : Option BuildState) (batches : ℕ) (P : BuildState → Type 0) → OnBuild o P → batches ≡ indexes_of_build o → OnBuild o (λ b. batches ≡ length b.specs)
+one_each None batches P runs many = absurd runs
+one_each (Some b) batches P runs many = many
 
 -- what is so of the work's own indexes is so of the build's
 pub of_going :

@@ -57,9 +57,9 @@ abbrev pub WriteHasCredit : LiveState → Option Credit → Type 0
 WriteHasCredit live None = Unit {0}
 WriteHasCredit live (Some credit) = MayWrite (waiting_in live) (indexes_of_build live.build) credit
 
--- a turn took as many entries as a ring has places for at least, where more than a switch takes waited: then what was taken before is
--- less than twice what waited at first
+-- a turn took more entries than a switch takes, where more than these waited: then what was taken before is less than twice what waited
+-- at first
 pub record TakesMore (old new : Credit) : Type 0 where
   pub first : new.first ≡ old.first
-  pub more : old.taken + 256 ≤ new.taken
+  pub more : old.taken + 1025 ≤ new.taken
   pub bounded : old.taken + 1026 ≤ 2 * old.first

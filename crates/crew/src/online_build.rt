@@ -14,11 +14,12 @@ mod range_queue;
 mod report;
 mod scanning;
 mod threads;
+mod turns;
 mod working;
 
-use crate::locked::Credit;
 use crate::online_build::loading::load_all;
 use crate::online_build::scanning::scan_all;
+use crate::online_build::turns::catch_up;
 use crate::{Opened, Table};
 use builder_core::{Building, Ends, Plan};
 pub use gate::{Gate, Point};
@@ -30,12 +31,9 @@ use std::sync::Wait;
 use std::thread;
 use std::thread::Threads;
 
-/// The most entries that a switch takes, over all indexes.
-const SWITCH_MOST: usize = 1_024;
-
 /// Builds the plan's indexes by a thread for each worker, while sessions write. The workers copy pages under the lock and make their pairs outside
 /// of it; the pairs are then put in order. Then it catches up in turns, which feed and apply what was written meanwhile, until a switch can take the
-/// rest. Sessions have credit for half as many entries as the build takes: so it catches up however quickly they write, after at most `n / 128` turns
+/// rest. Sessions have credit for half as many entries as the build takes: so it catches up however quickly they write, after at most `2 * n / 1025` turns
 /// where `n` entries waited at first, and never ends with [`Fault::Behind`]. Where busy transactions keep the switch waiting it is tried again, at
 /// most `tries` times of the plan together, and no other transaction begins until the build has decided or is given up.
 ///
@@ -58,7 +56,7 @@ where
     G: Gate + Sync,
     R: Threads + Wait + Sync,
     ensures report { IfOk result.2 (λ report. IsReport T.opening plan.now.specs.items report.receipt report.verdicts (lists_in report.pairs)) }
-    ensures bounded { IfOk result.2 (λ report. 128 * report.caught_up.turns ≤ report.caught_up.waited) }
+    ensures bounded { IfOk result.2 (λ report. 1025 * report.caught_up.turns ≤ 2 * report.caught_up.waited) }
     ensures not_empty { IfErr result.2 (λ fault. fault.0 ≡ Fault.SpoolNotEmpty
         → All (λ spool. (S.runs spool ≡ []) × (S.open_run spool ≡ [])) spools.items → ⊥) }
     ensures busy { IfErr result.2 (λ fault. (count : ℕ) → fault.0 ≡ Fault.Busy count → HasUnique plan.now.specs.items) }
@@ -90,7 +88,7 @@ where
     G: Gate + Sync,
     R: Threads + Wait + Sync,
     ensures report { IfOk result.1 (λ report. IsReport T.opening plan.now.specs.items report.receipt report.verdicts (lists_in report.pairs)) }
-    ensures bounded { IfOk result.1 (λ report. 128 * report.caught_up.turns ≤ report.caught_up.waited) }
+    ensures bounded { IfOk result.1 (λ report. 1025 * report.caught_up.turns ≤ 2 * report.caught_up.waited) }
     ensures not_empty { IfErr result.1 (λ fault. fault ≡ Fault.SpoolNotEmpty → HasPairsLeft building) }
     ensures busy { IfErr result.1 (λ fault. (count : ℕ) → fault ≡ Fault.Busy count → HasUnique plan.now.specs.items) }
     ensures never_behind { IfErr result.1 (λ fault. (left : ℕ) → fault ≢ Fault.Behind left) }
@@ -126,7 +124,7 @@ where
     requires lendable { CanLend building }
     requires goes_on { GoesOnWith 0 plan.now.specs.items building }
     ensures report { IfOk result.1 (λ report. IsReport T.opening plan.now.specs.items report.receipt report.verdicts (lists_in report.pairs)) }
-    ensures bounded { IfOk result.1 (λ report. 128 * report.caught_up.turns ≤ report.caught_up.waited) }
+    ensures bounded { IfOk result.1 (λ report. 1025 * report.caught_up.turns ≤ 2 * report.caught_up.waited) }
     ensures ends { IfErr result.1 (EndsFor plan.now.specs.items) }
     ensures stakes { stakes_beside result.0 ≡ stakes_beside building }
 {
@@ -151,7 +149,7 @@ fn finish<S: Spool + Send, T: Opened, G: Gate, R: Threads + Wait + Sync>(
     requires goes_on { GoesOnWith 0 plan.now.specs.items building }
     requires scans { StillScans building }
     ensures report { IfOk result.1 (λ report. IsReport T.opening plan.now.specs.items report.receipt report.verdicts (lists_in report.pairs)) }
-    ensures bounded { IfOk result.1 (λ report. 128 * report.caught_up.turns ≤ report.caught_up.waited) }
+    ensures bounded { IfOk result.1 (λ report. 1025 * report.caught_up.turns ≤ 2 * report.caught_up.waited) }
     ensures ends { IfErr result.1 (EndsFor plan.now.specs.items) }
     ensures stakes { stakes_beside result.0 ≡ stakes_beside building }
 {
@@ -179,7 +177,7 @@ fn take_turns<S: Spool, T: Opened, G: Gate, R: Wait>(
 ) -> Result<Report<T>, Fault>
     requires { GoesOnWith (length plan.now.specs.items) plan.now.specs.items building.old }
     ensures report { IfOk result (λ report. IsReport T.opening plan.now.specs.items report.receipt report.verdicts (lists_in report.pairs)) }
-    ensures bounded { IfOk result (λ report. 128 * report.caught_up.turns ≤ report.caught_up.waited) }
+    ensures bounded { IfOk result (λ report. 1025 * report.caught_up.turns ≤ 2 * report.caught_up.waited) }
     ensures ends { IfErr result (EndsFor plan.now.specs.items) }
     ensures stakes { stakes_beside building.new ≡ stakes_beside building.old }
 {
@@ -204,7 +202,7 @@ fn try_switch<S: Spool, T: Opened, G: Gate, R: Wait>(
 ) -> Result<Report<T>, Fault>
     requires { GoesOnWith (length plan.now.specs.items) plan.now.specs.items building.old }
     ensures report { IfOk result (λ report. IsReport T.opening plan.now.specs.items report.receipt report.verdicts (lists_in report.pairs)) }
-    ensures bounded { IfOk result (λ report. 128 * report.caught_up.turns ≤ report.caught_up.waited) }
+    ensures bounded { IfOk result (λ report. 1025 * report.caught_up.turns ≤ 2 * report.caught_up.waited) }
     ensures goes_on { IfErr result (λ fault. (count : ℕ) → fault ≡ Fault.Busy count
         → GoesOnWith (length plan.now.specs.items) plan.now.specs.items building.new) }
     ensures ends { IfErr result (EndsFor plan.now.specs.items) }
@@ -217,103 +215,4 @@ fn try_switch<S: Spool, T: Opened, G: Gate, R: Wait>(
     let told = catch_up(rt, alloc, table, plan, building, credit);
     table.credit_given().notify_all();
     told
-}
-
-/// Feeds and applies what was written meanwhile, until a switch takes what is left, and tries it in the same hold. While more than 1,024 entries
-/// wait, less than twice as many were taken as waited at first, and each turn takes 256 at least: so it ends, however quickly sessions write.
-fn catch_up<S: Spool, T: Opened, R: Wait>(
-    rt: &R,
-    alloc: Global,
-    table: &Table<T>,
-    plan: &Plan,
-    building: &mut Building<S, T>,
-    credit: Credit,
-) -> Result<Report<T>, Fault>
-    requires goes_on { GoesOnWith (length plan.now.specs.items) plan.now.specs.items building.old }
-    requires few { credit.first < 2 ^ 63 }
-    ensures report { IfOk result (λ report. IsReport T.opening plan.now.specs.items report.receipt report.verdicts (lists_in report.pairs)) }
-    ensures bounded { IfOk result (λ report. 128 * report.caught_up.turns ≤ report.caught_up.waited) }
-    ensures goes_on { IfErr result (λ fault. (count : ℕ) → fault ≡ Fault.Busy count
-        → GoesOnWith (length plan.now.specs.items) plan.now.specs.items building.new) }
-    ensures ends { IfErr result (EndsFor plan.now.specs.items) }
-    ensures stakes { stakes_beside building.new ≡ stakes_beside building.old }
-{
-    let mut known = credit;
-    let mut turns = 0;
-    loop {
-        if let Some(report) = take_turn(rt, alloc, table, plan, building, &mut known, turns)? {
-            return Ok(report);
-        }
-        turns += 1;
-    }
-}
-
-/// One turn, behind so many others, of the build that knows the credit so: where few entries wait it tries the switch; else it feeds some of each index
-/// and applies them outside of the lock.
-fn take_turn<S: Spool, T: Opened, R: Wait>(
-    rt: &R,
-    alloc: Global,
-    table: &Table<T>,
-    plan: &Plan,
-    building: &mut Building<S, T>,
-    known: &mut Credit,
-    turns: usize,
-) -> Result<Option<Report<T>>, Fault>
-    requires goes_on { GoesOnWith (length plan.now.specs.items) plan.now.specs.items building.old }
-    requires few { known.old.first < 2 ^ 63 }
-    ensures report { IfOk result (λ told. IfSome told (λ report.
-        IsReport T.opening plan.now.specs.items report.receipt report.verdicts (lists_in report.pairs))) }
-    ensures goes_on { IfErr result (λ fault. (count : ℕ) → fault ≡ Fault.Busy count
-        → GoesOnWith (length plan.now.specs.items) plan.now.specs.items building.new) }
-    ensures caught_up { IfOk result (λ told. IfSome told (λ report. report.caught_up ≡ record { waited = known.old.first; turns = turns })) }
-    ensures further { IfOk result (λ told. told ≡ None
-        → GoesOnWith (length plan.now.specs.items) plan.now.specs.items building.new × TakesMore known.old known.new) }
-    ensures ends { IfErr result (EndsFor plan.now.specs.items) }
-    ensures stakes { stakes_beside building.new ≡ stakes_beside building.old }
-{
-    let mut locked = table.lock().lock(rt);
-    let left = locked.settle(*known, building)?;
-    if left <= SWITCH_MOST {
-        let caught_up = CaughtUp {
-            waited: known.first,
-            turns,
-        };
-        return Ok(Some(locked.switch(alloc, plan.keep_pairs, caught_up, building)?));
-    }
-    let fed = locked.feed_all(building);
-    drop(locked);
-    table.credit_given().notify_all();
-    *known = known.after_taking(fed);
-    apply_all(plan, building)?;
-    Ok(None)
-}
-
-/// Applies to each index the entries that are in its ring.
-fn apply_all<S: Spool, T: Opened>(plan: &Plan, building: &mut Building<S, T>) -> Result<(), Fault>
-    requires { GoesOnWith (length plan.now.specs.items) plan.now.specs.items building.old }
-    ensures goes_on { OnOk result (GoesOnWith (length plan.now.specs.items) plan.now.specs.items building.new) }
-    ensures memory { IfErr result (λ fault. fault ≡ Fault.Memory) }
-    ensures stakes { stakes_beside building.new ≡ stakes_beside building.old }
-{
-    for index in 0..plan.specs.len() {
-        apply_seen(plan, building, index)?;
-    }
-    Ok(())
-}
-
-/// Applies the entries that are in the index's ring.
-fn apply_seen<S: Spool, T: Opened>(
-    plan: &Plan,
-    building: &mut Building<S, T>,
-    index: usize,
-) -> Result<(), Fault>
-    requires goes_on { GoesOnWith (length plan.now.specs.items) plan.now.specs.items building.old }
-    requires there { index < length plan.now.specs.items }
-    ensures goes_on { OnOk result (GoesOnWith (length plan.now.specs.items) plan.now.specs.items building.new) }
-    ensures stakes { stakes_beside building.new ≡ stakes_beside building.old }
-    ensures memory { IfErr result (λ fault. fault ≡ Fault.Memory) }
-{
-    let seen = building.look_for_entries(index);
-    building.apply(index, seen)?;
-    Ok(())
 }

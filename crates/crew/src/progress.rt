@@ -13,7 +13,7 @@ pub enum Phase {
     CatchingUp,
 }
 
-/// How far the build of a table is, as it was in one hold of the table's lock. But for `busy`, all is 0 where no build runs.
+/// How far the build of a table is, as it was in one hold of the table's lock. But for `busy` and `waiting`, all is 0 where no build runs.
 #[derive(Clone, Copy, PartialEq, Eq)]
 pub struct Progress {
     pub phase: Phase,
@@ -32,6 +32,8 @@ pub struct Progress {
     pub tries: u32,
     /// How many open transactions have a write that stands. The switch of a unique index waits for them.
     pub busy: usize,
+    /// How many sessions wait until the build has taken more of what was written; those that were woken and don't have the lock yet are counted.
+    pub waiting: usize,
     ghost within: { scanned ≤ pages },
 }
 
@@ -56,6 +58,7 @@ impl Progress {
             entries: 0,
             tries: 0,
             busy: 0,
+            waiting: 0,
         }
     }
 

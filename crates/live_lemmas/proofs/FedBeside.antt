@@ -9,9 +9,11 @@ use Rattle.live_lemmas.specs.Builds.{LiveValue, StandsBeside, SideIsLooked, Sees
 use Rattle.building.specs.BuildingValue.{BuildingValue, WorkValue, state_unless, work_state, index_state}
 use Rattle.table_scan.specs.TableBuilds.{BuildFollows}
 use Rattle.live_lemmas.specs.Builds.{core_state}
+use Rattle.live_lemmas.specs.Settling.{FeedsBatch, HasFedBatch, left_of_index, ring_at, ring_of}
 use Rattle.building.specs.WorkOn.{WorkMatches}
 use Rattle.build_events.specs.CoreState.{BuildState, IndexState, LiveState, CoreState}
 use Rattle.table_scan.specs.SideFiles.{side_refusal}
+use Rattle.side_file.specs.Changes.{TakesMost}
 use Rattle.side_file.specs.Ends.{PutEnd}
 use Rattle.side_file.specs.declared.entry.Entry.{Entry}
 use Rattle.std.proofs.lemmas.Option.{same_Some, get_or_from_slice_get}
@@ -130,3 +132,24 @@ module _
     feeds_beside most place new (Ok count) least free fed =
         subst (λ (s : CoreState). Feeds index most s count (core_state new mid)) (state_side_looked index live new_live building mid looked)
         (feeds_next most place new count least free fed)
+
+    -- where nothing waits in the ring there is a place for a batch
+    pub batch_beside :
+        (most : ℕ) (new : LiveValue) (count : ℕ) → OnBuild live.state.build (λ b. index < length b.specs) → ring_at index (core_state live building) ≡ 0
+        → HasFedBatch index most new_live count new → FeedsBatch index most (core_state live building) count (core_state new mid)
+    batch_beside most new count there none fed =
+        let b : BuildState = fed.build in
+        let runs : live.state.build ≡ Some b = sym (ap (λ (s : LiveState). s.build) state_is) ∙ fed.runs in
+        let less : index < length b.specs = subst (λ (o : Option BuildState). OnBuild o (λ x. index < length x.specs)) runs there in
+        let same = state_side_looked index live new_live building mid looked in
+        let empty : in_ring b (work_state mid.workers mid.work) index ≡ 0 =
+        sym (ap (λ (o : Option BuildState). ring_of o (core_state new_live mid) index) fed.runs) ∙ ap (ring_at index) same ∙ none in
+        let its_put : fed.put ≡ sees.put = same_Some fed.put sees.put (sym fed.there ∙ sees.put_there) in
+        let places = ap (λ (p : PutEnd Entry). p.free) its_put in
+        let seen = waits b mid.work fed.runs refl less in
+        let whole : TakesMost most (left_of_index b new_live.state.heap.log index) count = fed.whole (omega (arith, sees.sees.free, seen, empty, places)) in
+        subst (λ (s : CoreState). FeedsBatch index most s count (core_state new mid)) same
+        (subst (λ (o : Option BuildState). OnBuild o (λ x. (count ≤ left_of_index x new_live.state.heap.log index)
+        × TakesMost most (left_of_index x new_live.state.heap.log index) count
+        × (core_state new mid ≡ record (core_state new_live mid) { live = record new_live.state { build = Some (after_feed x index count) } }))) (sym fed.runs)
+        (fed.few, whole, ap (λ (s : LiveState). record (core_state new_live mid) { live = s }) fed.left))

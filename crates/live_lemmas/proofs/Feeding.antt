@@ -4,7 +4,7 @@ use Rattle.std.specs.List.{slice_get}
 use Rattle.keybytes.specs.Keys.{KeySpecValue}
 use Rattle.keybytes.specs.declared.kind.Kind.{Kind}
 use Rattle.heap_log.specs.declared.record.LogRec.{LogRec}
-use Rattle.side_file.specs.Changes.{all_appended, Feeds, feed_most}
+use Rattle.side_file.specs.Changes.{all_appended, Feeds}
 use Rattle.side_file.specs.Ends.{PutEnd}
 use Rattle.side_file.specs.SideFileValue.{SideFileValue}
 use Rattle.side_file.specs.declared.entry.Entry.{Entry}
@@ -34,8 +34,8 @@ module _
   state_side_looked = state_sides_looked live new_live building new same
 
 module _
-    (log : List LogRec) (b : BuildState) (index : ℕ) (spec : KeySpecValue) (less : index < length b.fed) (old new : SideFileValue) (count most : ℕ)
-    (has : HasEntries log b index spec old) (feeds : Feeds old count new) (few : count ≤ feed_most most old) (all : all_appended new ≡ all_appended old) where
+    (log : List LogRec) (b : BuildState) (index : ℕ) (spec : KeySpecValue) (less : index < length b.fed) (old new : SideFileValue) (count : ℕ)
+    (has : HasEntries log b index spec old) (feeds : Feeds old count new) (few : count ≤ length old.left) (all : all_appended new ≡ all_appended old) where
   -- the workers follow a feed, as the side-file does
   pub follow_fed :
       (kinds : List Kind) (pages : List (PutEnd Copied)) (puts : List (PutEnd Entry)) (building : BuildingValue) (work : Option WorkValue) → slice_get puts index ≡ Some old.end
@@ -46,7 +46,7 @@ module _
     fed = λ k it p e at put taken. elim (at_set puts index new.end k p put) [
       | inl here ↦
           let was = follow.fed k it old.end e at (ap (slice_get puts) here.0 ∙ there) taken in
-          rw (here.1, here.0) (ring_fed log b index spec less old new count most has feeds few all it.applied e countable (subst (λ (i : ℕ). IsFed (fed_to b i) it.applied old.end e) here.0 was))
+          rw (here.1, here.0) (ring_fed log b index spec less old new count has feeds few all it.applied e countable (subst (λ (i : ℕ). IsFed (fed_to b i) it.applied old.end e) here.0 was))
       | inr other ↦ rw (fed_other b index count k other.0) (follow.fed k it p e at other.1 taken)
     ];
     given = follow.given;

@@ -4,6 +4,7 @@ pub mod CatchingUp
 pub mod CopyPairs
 pub mod EarlyCauses
 pub mod FedBeside
+pub mod FedSides
 pub mod Feeding
 pub mod Following
 pub mod FullSpools

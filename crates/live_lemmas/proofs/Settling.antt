@@ -1,25 +1,25 @@
 -- How a build catches up beside its table: what was fed is applied, and what is left is fed.
 use Rattle.std.proofs.Common.{◌≡◌, ◌⊎◌, ℕ, zero, suc, ◌+◌, ◌-◌, ◌*◌, ◌<◌, ◌≤◌, List, length, set, get_or, drop, Option, Some, None, refl, sym, ap, ◌∙◌, subst, inl, inr, arith}
-use Rattle.std.specs.Prelude.{◌==◌, min, IsSome, IfSome}
+use Rattle.std.specs.Prelude.{◌==◌, IsSome, IfSome}
 use Rattle.std.specs.List.{slice_get}
-use Rattle.std.proofs.Math.Nat.{min-le_left, min-le_right, le-min}
 use Rattle.std.proofs.lemmas.Bool.{cases_Bool, eqb-true, eqb-false, cases_lt}
 use Rattle.std.proofs.lemmas.List.{get_or-set_same, get_or-set_other, length-drop, length-map, length-set}
 use Rattle.std.proofs.lemmas.Option.{same_Some}
 use Rattle.keybytes.specs.Keys.{KeySpecValue}
 use Rattle.heap_log.specs.declared.record.LogRec.{LogRec}
+use Rattle.side_file.specs.Changes.{TakesMost}
 use Rattle.side_file.specs.Entries.{entry_of}
 use Rattle.side_file.specs.declared.entry.Entry.{Entry}
 use Rattle.visibility.specs.SideEntries.{SideEntry}
 use Rattle.table_scan.specs.SideFiles.{AreEntriesLeft, side_refusal}
-use Rattle.build_events.specs.BuildSteps.{OnBuild, Applies, AppliesSome, Feeds, MayTakeMemory, after_apply, after_feed, next_applied, next_fed}
+use Rattle.build_events.specs.BuildSteps.{OnBuild, Applies, AppliesSome, MayTakeMemory, after_apply, after_feed, next_applied}
 use Rattle.build_events.specs.CoreState.{BuildState, CoreState, IndexState, scanning_of}
 use Rattle.build_events.specs.SideEntries.{side_entries}
 use Rattle.build_events.specs.Workers.{all_entries, all_unapplied, all_unfed, fed_to, in_ring, index_at, unapplied, unfed, unfed_before}
 use Rattle.building.specs.BuildingValue.{BuildingValue}
 use Rattle.live_lemmas.specs.Builds.{LiveValue, core_state}
 use Rattle.live_lemmas.specs.CatchingUp.{left_at, left_of, unapplied_at}
-use Rattle.live_lemmas.specs.Settling.{IsSettled, OnlyFeeds, Settles, entries_waiting, ring_at, ring_of, waiting_in}
+use Rattle.live_lemmas.specs.Settling.{FeedsBatch, IsSettled, OnlyFeeds, Settles, entries_waiting, left_of_index, ring_at, ring_of, waiting_in}
 use Rattle.live_lemmas.proofs.ApplyCauses.{inside_of}
 use Rattle.live_lemmas.proofs.CatchingUp.{AllAreFurther}
 use Rattle.live_lemmas.proofs.LeftOver.{all_left, left_before}
@@ -139,7 +139,7 @@ module _ (b : BuildState) (log : List LogRec) (index count : ℕ) where
     ]
 
 -- how far a build is that is being fed: how many entries of its first indexes, and of all, were not fed
-pub record IsBeingFed (most index fed : ℕ) (s new : CoreState) : Type 0 where
+pub record IsBeingFed (most index : ℕ) (s new : CoreState) : Type 0 where
   pub build : BuildState
   pub runs : s.live.build ≡ Some build
   pub list : List ℕ
@@ -147,12 +147,12 @@ pub record IsBeingFed (most index fed : ℕ) (s new : CoreState) : Type 0 where
   pub new_is : new ≡ record s { live = record s.live { build = Some (record build { fed = list }) } }
   -- the others are as they were
   pub others : (k : ℕ) → index ≤ k → get_or list k 0 ≡ fed_to build k
+  pub fed : ℕ
   pub counted : all_unfed (record build { fed = list }) s.live.heap.log + fed ≡ all_unfed build s.live.heap.log
-  pub few : fed ≤ 256 * index
-  -- where as many may be fed as a ring has places for, as many were, or all that was left
-  pub many_fed : 256 ≤ most → (256 ≤ fed) ⊎ (fed ≡ unfed_before index build s.live.heap.log)
+  -- all that was left of the first was fed, or the most less a chunk
+  pub many_fed : (most < fed + 1024) ⊎ (fed ≡ unfed_before index build s.live.heap.log)
 
-pub not_fed_yet : (most : ℕ) (s : CoreState) (b : BuildState) → s.live.build ≡ Some b → length b.fed ≡ length b.specs → IsBeingFed most 0 0 s s
+pub not_fed_yet : (most : ℕ) (s : CoreState) (b : BuildState) → s.live.build ≡ Some b → length b.fed ≡ length b.specs → IsBeingFed most 0 s s
 not_fed_yet most s b runs many = record {
   build = b;
   runs = runs;
@@ -160,91 +160,79 @@ not_fed_yet most s b runs many = record {
   many = many;
   new_is = ap (λ (o : Option BuildState). record s { live = record s.live { build = o } }) runs;
   others = λ k less. refl;
+  fed = 0;
   counted = omega arith;
-  few = omega arith;
-  many_fed = λ may. inr refl;
+  many_fed = inr refl;
 }
 
 -- one index more was fed
-module _
-    (most index fed count : ℕ) (s mid new : CoreState) (being : IsBeingFed most index fed s mid) (settled : IsSettled s) (less : index < length being.build.specs)
-    (feeds : Feeds index most mid count new) where
+module _ (most index : ℕ) (s mid : CoreState) (being : IsBeingFed most index s mid) (less : index < length being.build.specs) where
   abbrev its_log : List LogRec
   its_log = s.live.heap.log
 
   abbrev now : BuildState
   now = record being.build { fed = being.list }
 
-  fed_so : (count ≡ next_fed now its_log s.work index most) × (new ≡ record s { live = record s.live { build = Some (after_feed now index count) } })
-  fed_so = subst (λ (m : CoreState). Feeds index most m count new) being.new_is feeds
-
   its_place : fed_to now index ≡ fed_to being.build index
   its_place = being.others index (omega arith)
 
-  none_waits : in_ring now s.work index ≡ 0
-  none_waits =
+  -- nothing waits in its ring, as before
+  pub still_empty : IsSettled s → ring_at index mid ≡ 0
+  still_empty settled =
       let before : in_ring being.build s.work index ≡ 0 = ring_settled s being.build being.runs settled index less in
-      ap (λ n. n - (index_at s.work.indexes index).applied) its_place ∙ before
+      ap (ring_at index) being.new_is ∙ ap (λ n. n - (index_at s.work.indexes index).applied) its_place ∙ before
 
-  abbrev left : ℕ
-  left = unfed now its_log index (slice_get being.build.specs index)
+  pub is_there : OnBuild mid.live.build (λ b. index < length b.specs)
+  is_there = subst (λ (m : CoreState). OnBuild m.live.build (λ b. index < length b.specs)) (sym being.new_is) less
 
-  left_was : (o : Option KeySpecValue) → unfed now its_log index o ≡ unfed being.build its_log index o
-  left_was None = refl
-  left_was (Some spec) = ap (λ n. all_entries being.build its_log spec - n) its_place
+  module _ (count : ℕ) (new : CoreState) (feeds : FeedsBatch index most mid count new) where
+    fed_so :
+        (count ≤ left_of_index now its_log index) × TakesMost most (left_of_index now its_log index) count
+        × (new ≡ record s { live = record s.live { build = Some (after_feed now index count) } })
+    fed_so = subst (λ (m : CoreState). FeedsBatch index most m count new) being.new_is feeds
 
-  count_is : count ≡ min most (min left 256)
-  count_is = fed_so.0 ∙ ap (λ n. min most (min left (256 - n))) none_waits
+    left_was : (o : Option KeySpecValue) → unfed now its_log index o ≡ unfed being.build its_log index o
+    left_was None = refl
+    left_was (Some spec) = ap (λ n. all_entries being.build its_log spec - n) its_place
 
-  few_left : (count ≤ left) × (count ≤ 256)
-  few_left =
-      let a = min-le_right most (min left 256) in
-      let b = min-le_left left 256 in
-      let c = min-le_right left 256 in
-      (omega (arith, count_is, a, b), omega (arith, count_is, a, c))
-
-  count_of : 256 ≤ most → (count ≡ left) ⊎ (count ≡ 256)
-  count_of may = elim (cases_lt left 256) [
-    | inl less ↦
-        let least : left ≤ min most (min left 256) = le-min (omega (arith, less, may)) (le-min (omega arith) (omega (arith, less))) in
-        inl (omega (arith, count_is, least, few_left.0))
-    | inr more ↦
-        let least : 256 ≤ min most (min left 256) = le-min may (le-min more (omega arith)) in
-        inr (omega (arith, count_is, least, few_left.1))
-  ]
-
-  one_more_fed : 256 ≤ most → (256 ≤ fed + count) ⊎ (fed + count ≡ unfed_before (index + 1) being.build its_log)
-  one_more_fed may = elim (being.many_fed may) [
-    | inl before ↦ inl (omega (arith, before))
-    | inr earlier ↦ elim (count_of may) [
-      | inr full ↦ inl (omega (arith, full))
-      | inl all ↦
-          let was = left_was (slice_get being.build.specs index) in
-          let next : index + 1 ≡ suc index = omega arith in
-          let sum : fed + count ≡ unfed_before (suc index) being.build its_log = omega (arith, earlier, all, was) in
-          inr (sum ∙ sym (ap (λ n. unfed_before n being.build its_log) next))
+    count_of : (count ≡ left_of_index now its_log index) ⊎ (most < count + 1024)
+    count_of = elim (cases_lt count (left_of_index now its_log index)) [
+      | inl less ↦ inr (fed_so.1.stops less)
+      | inr more ↦ inl (omega (arith, more, fed_so.0))
     ]
-  ]
 
-  pub fed_one_more : IsBeingFed most (index + 1) (fed + count) s new
-  fed_one_more =
-      let here : index < length being.list = omega (arith, less, being.many) in
-      let sum = before_fed now its_log index count (length being.build.specs) less here few_left.0 in
-      record {
-        build = being.build;
-        runs = being.runs;
-        list = set being.list index (fed_to now index + count);
-        many = length-set being.list index (fed_to now index + count) ∙ being.many;
-        new_is = fed_so.1;
-        others = λ k more.
-            get_or-set_other being.list index k (fed_to now index + count) 0 (λ same. omega (arith, same, more)) ∙ being.others k (omega (arith, more));
-        counted = omega (arith, sum, being.counted);
-        few = omega (arith, being.few, few_left.1);
-        many_fed = one_more_fed;
-      }
+    one_more_fed : (most < being.fed + count + 1024) ⊎ (being.fed + count ≡ unfed_before (index + 1) being.build its_log)
+    one_more_fed = elim being.many_fed [
+      | inl before ↦ inl (omega (arith, before))
+      | inr earlier ↦ elim count_of [
+        | inr full ↦ inl (omega (arith, full))
+        | inl all ↦
+            let was = left_was (slice_get being.build.specs index) in
+            let next : index + 1 ≡ suc index = omega arith in
+            let sum : being.fed + count ≡ unfed_before (suc index) being.build its_log = omega (arith, earlier, all, was) in
+            inr (sum ∙ sym (ap (λ n. unfed_before n being.build its_log) next))
+      ]
+    ]
+
+    pub fed_one_more : IsBeingFed most (index + 1) s new
+    fed_one_more =
+        let here : index < length being.list = omega (arith, less, being.many) in
+        let sum = before_fed now its_log index count (length being.build.specs) less here fed_so.0 in
+        record {
+          build = being.build;
+          runs = being.runs;
+          list = set being.list index (fed_to now index + count);
+          many = length-set being.list index (fed_to now index + count) ∙ being.many;
+          new_is = fed_so.2;
+          others = λ k more.
+              get_or-set_other being.list index k (fed_to now index + count) 0 (λ same. omega (arith, same, more)) ∙ being.others k (omega (arith, more));
+          fed = being.fed + count;
+          counted = omega (arith, sum, being.counted);
+          many_fed = one_more_fed;
+        }
 
 -- all were fed
-module _ (most fed : ℕ) (live new_live : LiveValue) (building new : BuildingValue) (index : ℕ) (being : IsBeingFed most index fed (core_state live building) (core_state new_live new)) where
+module _ (most : ℕ) (live new_live : LiveValue) (building new : BuildingValue) (index : ℕ) (being : IsBeingFed most index (core_state live building) (core_state new_live new)) where
   pub only_feeds : OnlyFeeds (core_state live building) (core_state new_live new)
   only_feeds = record { build = being.build; runs = being.runs; fed = being.list; new_is = being.new_is }
 
@@ -254,13 +242,13 @@ module _ (most fed : ℕ) (live new_live : LiveValue) (building new : BuildingVa
   waiting_was : waiting_in live.state ≡ all_unfed being.build live.state.heap.log
   waiting_was = ap (λ (o : Option BuildState). entries_waiting o live.state.heap.log) being.runs
 
-  pub fed_and_left : waiting_in new_live.state + fed ≡ waiting_in live.state
+  pub fed_and_left : waiting_in new_live.state + being.fed ≡ waiting_in live.state
   fed_and_left =
       let after = ap waiting_in state_is in
       omega (arith, after, being.counted, waiting_was)
 
-  pub many_were_fed : length being.build.specs ≡ index → 256 ≤ most → (256 ≤ fed) ⊎ (fed ≡ waiting_in live.state)
-  many_were_fed all may = elim (being.many_fed may) [
+  pub many_were_fed : length being.build.specs ≡ index → (most < being.fed + 1024) ⊎ (being.fed ≡ waiting_in live.state)
+  many_were_fed all = elim being.many_fed [
     | inl many ↦ inl many
     | inr each ↦ inr (each ∙ sym (ap (λ n. unfed_before n being.build live.state.heap.log) all) ∙ sym waiting_was)
   ]

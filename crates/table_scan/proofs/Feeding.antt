@@ -12,7 +12,7 @@ use Rattle.visibility.specs.SideEntries.{SideEntry}
 use Rattle.build_events.specs.SideEntries.{side_entries}
 use Rattle.keybytes.specs.declared.kind.Kind.{Kind}
 use Rattle.heap_log.specs.declared.record.LogRec.{LogRec}
-use Rattle.side_file.specs.Changes.{all_appended, Feeds, IsSideFile, feed_most}
+use Rattle.side_file.specs.Changes.{all_appended, Feeds, IsSideFile}
 use Rattle.side_file.specs.Ends.{PutEnd}
 use Rattle.side_file.specs.Kept.{last_ones}
 use Rattle.side_file.specs.SideFileValue.{SideFileValue}
@@ -45,8 +45,8 @@ last_more n c xs ys many =
     ap (λ k. drop k (xs ++ ys)) same ∙ drop-append-le (length xs - n) xs ys (omega arith)
 
 -- so many of the first that are left
-fed_count : (old : SideFileValue) (count most : ℕ) → count ≤ feed_most most old → length (take count old.left) ≡ count
-fed_count old count most few = omega (arith, length-take count old.left, few)
+fed_count : (old : SideFileValue) (count : ℕ) → count ≤ length old.left → length (take count old.left) ≡ count
+fed_count old count few = omega (arith, length-take count old.left, few)
 
 -- how many of an index were fed, once more of one were
 pub fed_after : (b : BuildState) (index count : ℕ) → index < length b.fed → fed_to (after_feed b index count) index ≡ fed_to b index + count
@@ -56,8 +56,8 @@ pub fed_other : (b : BuildState) (index count k : ℕ) → (k ≡ index → ⊥)
 fed_other b index count k other = get_or-set_other b.fed index k (fed_to b index + count) 0 other
 
 module _
-    (log : List LogRec) (b : BuildState) (index : ℕ) (spec : KeySpecValue) (less : index < length b.fed) (old new : SideFileValue) (count most : ℕ)
-    (has : HasEntries log b index spec old) (feeds : Feeds old count new) (few : count ≤ feed_most most old) (all : all_appended new ≡ all_appended old) where
+    (log : List LogRec) (b : BuildState) (index : ℕ) (spec : KeySpecValue) (less : index < length b.fed) (old new : SideFileValue) (count : ℕ)
+    (has : HasEntries log b index spec old) (feeds : Feeds old count new) (few : count ≤ length old.left) (all : all_appended new ≡ all_appended old) where
   -- the side-file follows
   pub entries_fed : HasEntries log (after_feed b index count) index spec new
   entries_fed = record {
@@ -68,7 +68,7 @@ module _
         ∙ sym many;
     sent =
         ap₂ (λ (n : ℕ) (xs : List Entry). last_ones n xs) many feeds.sent
-        ∙ last_more (length old.fed) count old.end.sent (take count old.left) (fed_count old count most few)
+        ∙ last_more (length old.fed) count old.end.sent (take count old.left) (fed_count old count few)
         ∙ ap (λ xs. xs ++ take count old.left) has.sent ∙ sym feeds.fed;
     own =
         ap (own_entries b.number) feeds.sent ∙ filter-append (λ (entry : Entry). entry.build == b.number) old.end.sent (take count old.left)
@@ -76,7 +76,7 @@ module _
         ∙ ap (λ (es : List Entry). old.fed ++ es) (own_all b.number (take count old.left) (next_are_own log b index spec old count has)) ∙ sym feeds.fed;
   } where
     many : length new.fed ≡ length old.fed + count
-    many = ap length feeds.fed ∙ length-append old.fed (take count old.left) ∙ ap (λ n. length old.fed + n) (fed_count old count most few)
+    many = ap length feeds.fed ∙ length-append old.fed (take count old.left) ∙ ap (λ n. length old.fed + n) (fed_count old count few)
 
   -- all can be counted
   pub fed_countable : IsSideFile new → fed_to b index + count < 2 ^ 64
@@ -90,7 +90,7 @@ module _
       → IsFed (fed_to (after_feed b index count) index) applied new.end end
   ring_fed applied end countable is =
       let n : ℕ = fed_to b index - applied in
-      let many = fed_count old count most few in
+      let many = fed_count old count few in
       let more : (fed_to b index + count) - applied ≡ n + count = omega (arith, is.counted) in
       let sent = length-append old.end.sent (take count old.left) in
       subst (λ (f : ℕ). IsFed f applied new.end end) (sym (fed_after b index count less)) (record {
@@ -120,13 +120,13 @@ other_fed log b index count k spec side other has = record {
 }
 
 pub sides_fed :
-    (log : List LogRec) (b : BuildState) (index : ℕ) (sides : List SideFileValue) (old new : SideFileValue) (count most : ℕ) → index < length b.fed
-    → slice_get sides index ≡ Some old → HaveEntries log b sides → Feeds old count new → count ≤ feed_most most old → all_appended new ≡ all_appended old
+    (log : List LogRec) (b : BuildState) (index : ℕ) (sides : List SideFileValue) (old new : SideFileValue) (count : ℕ) → index < length b.fed
+    → slice_get sides index ≡ Some old → HaveEntries log b sides → Feeds old count new → count ≤ length old.left → all_appended new ≡ all_appended old
     → HaveEntries log (after_feed b index count) (set sides index new)
-sides_fed log b index sides old new count most less there has feeds few all = λ k spec side at put. elim (at_set sides index new k side put) [
+sides_fed log b index sides old new count less there has feeds few all = λ k spec side at put. elim (at_set sides index new k side put) [
   | inl here ↦
       let was : HasEntries log b index spec old = has index spec old (ap (slice_get b.specs) (sym here.0) ∙ at) there in
-      rw (here.1, here.0) (entries_fed log b index spec less old new count most was feeds few all)
+      rw (here.1, here.0) (entries_fed log b index spec less old new count was feeds few all)
   | inr other ↦ other_fed log b index count k spec side other.0 (has k spec side at other.1)
 ]
 

@@ -5,18 +5,19 @@ ghost use Rattle.keybytes.specs.declared.fault.Fault.{Fault};
 ghost use Rattle.building.specs.IndexLoads.{CanLoadAll};
 ghost use Rattle.building.specs.Lent.{CanLend};
 ghost use Rattle.ready_indexes.specs.Following.{indexes_of};
-ghost use Rattle.live_lemmas.specs.Settling.{waiting_in};
-ghost use Rattle.crew.specs.Credits.{IsSettledBeside};
+ghost use Rattle.live_lemmas.specs.Settling.{HasRoomForBatch, waiting_in};
+ghost use Rattle.crew.specs.Credits.{IsSettledBeside, indexes_of_build};
 ghost use Rattle.crew.specs.Reports.{EndsFor, IsOther, IsReport, lists_in};
 ghost use Rattle.crew.specs.Places.{GoesOnWith, HasPairsLeft, StillScans, stakes_beside};
 
 use crate::locked::{Credit, Locked, copied};
 use crate::{CaughtUp, Opened, Progress, Receipt, Report};
 use builder_core::{Building, Plan, ReadyIndexes};
+use chunk_list::ChunkQueue;
 use heap_table::PageImage;
 use keybytes::{Fault, Pair};
 use run_spool::Spool;
-use side_file::RING_ENTRIES;
+use side_file::Entry;
 use std::alloc::Global;
 
 impl<T: Opened> Locked<T> {
@@ -107,18 +108,26 @@ impl<T: Opened> Locked<T> {
         }
     }
 
-    /// Moves the next entries of each side-file into its ring, at most as many as a ring has room for, and answers how many those are together.
-    pub(crate) fn feed_all<S: Spool>(&mut self, building: &mut Building<S, T>) -> usize
+    /// Moves the first entries that are left of each index into its ring as a batch, at most `most` of each, and answers how many those are together.
+    /// There is a queue for each batch.
+    pub(crate) fn feed_all<S: Spool>(
+        &mut self,
+        most: usize,
+        batches: Vec<ChunkQueue<Entry>>,
+        building: &mut Building<S, T>,
+    ) -> usize
         requires settled { IsSettledBeside self.old building.old }
+        requires batches { length batches.items ≡ indexes_of_build self.old.state.build }
+        requires room { All (HasRoomForBatch most) batches.items }
         requires countable { IfSome self.old.credit (λ credit. credit.taken + waiting_in self.old.state < 2 ^ 64) }
         ensures taken { IfSome self.old.credit (λ credit. self.new.credit ≡ Some (record credit { taken = credit.taken + result })) }
         ensures left { waiting_in self.new.state + result ≡ waiting_in self.old.state }
-        ensures many { (256 ≤ result) ⊎ (result ≡ waiting_in self.old.state) }
+        ensures many { (most < result + 1024) ⊎ (result ≡ waiting_in self.old.state) }
         ensures goes_on { (count : ℕ) (specs : List KeySpecValue) → GoesOnWith count specs building.old → GoesOnWith count specs building.new }
         ensures stakes { stakes_beside building.new ≡ stakes_beside building.old }
         ensures log { self.new.state.heap.log ≡ self.old.state.heap.log }
     {
-        let fed = self.live.feed_all(RING_ENTRIES, building);
+        let fed = self.live.feed_all(most, batches, building);
         self.progress.note_fed(fed);
         if let Some(credit) = self.credit {
             self.credit = Some(credit.after_taking(fed));

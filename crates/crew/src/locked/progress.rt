@@ -15,6 +15,7 @@ impl<T: Opened> Locked<T> {
         let mut progress = self.progress;
         progress.entries = progress.entries.saturating_add(self.live.entries_left());
         progress.busy = self.live.heap().busy();
+        progress.waiting = self.waiting;
         progress
     }
 
@@ -38,6 +39,20 @@ impl<T: Opened> Locked<T> {
             return false;
         };
         credit.is_spent(self.live.entries_left(), self.indexes())
+    }
+
+    /// A session begins to wait for credit.
+    pub(crate) fn note_waits(&mut self)
+        ensures { self.new ≡ self.old }
+    {
+        self.waiting = self.waiting.saturating_add(1);
+    }
+
+    /// A session that waited doesn't any more.
+    pub(crate) fn note_goes_on(&mut self)
+        ensures { self.new ≡ self.old }
+    {
+        self.waiting = self.waiting.saturating_sub(1);
     }
 
     /// The build begins to catch up: sessions have credit from here on, which it is answered.

@@ -1,16 +1,18 @@
 //! The turns of a build that catches up with those who write, with both ends of the rings of its side-files at hand.
-ghost use Rattle.std.specs.Prelude.{◌≡◌, ◌⊎◌, ℕ, ◌+◌, ◌^◌, ◌<◌, ◌≤◌, None, true, length, IfSome, IsSome, IfErr, OnOk, slice_get};
+ghost use Rattle.std.specs.Prelude.{◌≡◌, ◌⊎◌, ℕ, ◌+◌, ◌^◌, ◌<◌, ◌≤◌, All, None, true, length, IfSome, IsSome, IfErr, OnOk, slice_get};
 ghost use Rattle.build_events.specs.Workers.{unfed};
 ghost use Rattle.build_events.specs.BuildSteps.{CatchesUp, OnBuild};
 ghost use Rattle.build_events.specs.declared.event.Event.{Event};
 ghost use Rattle.live_lemmas.specs.Builds.{core_state, cause_of, StandsBeside};
 ghost use Rattle.live_lemmas.specs.CatchingUp.{MayCatchUp, IndexIsFurther};
-ghost use Rattle.live_lemmas.specs.Settling.{IsSettled, OnlyFeeds, Settles, ring_at, waiting_in};
+ghost use Rattle.live_lemmas.specs.Settling.{FeedsBatch, HasRoomForBatch, IsSettled, OnlyFeeds, Settles, ring_at, waiting_in};
 ghost use Rattle.live_lemmas.specs.Switching.{IsPartOf, KeepsOut};
 
 use crate::{Building, Live, TableRings};
+use chunk_list::ChunkQueue;
 use keybytes::Fault;
 use run_spool::Spool;
+use side_file::Entry;
 
 impl<T: TableRings> Live<T> {
     /// How many entries of all side-files of the build that runs weren't fed yet; 0 where none runs.
@@ -99,25 +101,56 @@ impl<T: TableRings> Live<T> {
         Ok(())
     }
 
-    /// Moves the next entries of each index into its ring, at most `most` of each and a ring's 256, and answers how many. Takes no memory.
-    pub fn feed_all<S: Spool>(&mut self, most: usize, building: &mut Building<S, T>) -> usize
+    /// Moves the first entries that each index has left into its ring as a batch, by whole chunks and at most `most` of each, and answers how many those
+    /// are together. There is a queue for each batch. Takes no memory, and a time that goes with the number of chunks.
+    pub fn feed_all<S: Spool>(
+        &mut self,
+        most: usize,
+        batches: Vec<ChunkQueue<Entry>>,
+        building: &mut Building<S, T>,
+    ) -> usize
         requires works { StandsBeside self.old building.old }
         requires settled { IsSettled (core_state self.old building.old) }
+        requires batches { OnBuild self.old.state.build (λ b. length batches.items ≡ length b.specs) }
+        requires room { All (HasRoomForBatch most) batches.items }
         ensures works { StandsBeside self.new building.new }
         ensures feeds { OnlyFeeds (core_state self.old building.old) (core_state self.new building.new) }
         ensures left { waiting_in self.new.state + result ≡ waiting_in self.old.state }
-        ensures many { 256 ≤ most → (256 ≤ result) ⊎ (result ≡ waiting_in self.old.state) }
+        ensures many { (most < result + 1024) ⊎ (result ≡ waiting_in self.old.state) }
     {
         let Some(build) = self.build() else {
             unreachable!()
         };
-        let mut fed = 0;
-        for index in 0..build.indexes() {
-            let Ok(count) = self.feed_beside(index, most, building) else {
+        let indexes = build.indexes();
+        let waited = self.entries_left();
+        let mut batches = batches;
+        for index in 0..indexes {
+            let Some(batch) = batches.pop() else {
                 unreachable!()
             };
-            fed += count;
+            self.feed_one(index, most, batch, building);
         }
-        fed
+        waited - self.entries_left()
+    }
+
+    /// Moves a batch into the ring of an index, in which nothing waits.
+    fn feed_one<S: Spool>(
+        &mut self,
+        index: usize,
+        most: usize,
+        batch: ChunkQueue<Entry>,
+        building: &mut Building<S, T>,
+    ) -> usize
+        requires works { StandsBeside self.old building.old }
+        requires there { OnBuild self.old.state.build (λ b. index < length b.specs) }
+        requires empty { ring_at index (core_state self.old building.old) ≡ 0 }
+        requires room { HasRoomForBatch most batch }
+        ensures works { StandsBeside self.new building.new }
+        ensures fed { FeedsBatch index most (core_state self.old building.old) result (core_state self.new building.new) }
+    {
+        // What the table keeps is known once its fields are reached.
+        let _pages = &self.pages;
+        self.look_at_side(index, building);
+        self.feed_batch(index, most, batch)
     }
 }

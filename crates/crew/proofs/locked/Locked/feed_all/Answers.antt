@@ -2,12 +2,20 @@ use Rattle.std.proofs.Common.{◌≡◌, ◌∙◌, List, length, subst, sym}
 use mathlib.Core.List.{IsPrefix}
 use Rattle.heap_log.specs.declared.record.LogRec.{LogRec}
 use Rattle.ready_indexes.specs.Indexes.{ReadyValue}
-use Rattle.live_lemmas.specs.Builds.{StandsBeside}
-use Rattle.crew.specs.Credits.{CreditIsKept, LockedValue, live_in}
+use Rattle.live_lemmas.specs.Builds.{StandsBeside, core_state}
+use Rattle.live_lemmas.specs.Settling.{IsSettled}
+use Rattle.crew.specs.Credits.{CreditIsKept, LockedValue, indexes_of_build, live_in}
 use Rattle.crew.specs.MadeReady.{HasMadeReady}
 use Rattle.crew.proofs.Credits.{fed_keeps}
-use Rattle.crew.proofs.Following.{fed_goes_on, fed_indexes, fed_log, fed_ready}
+use Rattle.crew.proofs.Following.{fed_goes_on, fed_indexes, fed_log, fed_ready, one_each}
 use Rattle.crew.proofs.locked.Locked.feed_all.Goals as goal
+
+pub feed_all-fed-requires-clause-batches : goal.feed_all-fed-requires-clause-batches
+feed_all-fed-requires-clause-batches g c =
+    let live = c.self.inside.live in
+    let settled = subst (λ (l : LockedValue). IsSettled (core_state (live_in l) c.args.building.now)) (sym c.self.view_is) c.requires.settled.settled in
+    let many = subst (λ (l : LockedValue). length c.args.batches.items ≡ indexes_of_build l.state.build) (sym c.self.view_is) c.requires.batches in
+    one_each live.state.build (length c.args.batches.items) _ settled many
 
 pub invariant_of-self : goal.invariant_of-self
 invariant_of-self g c =

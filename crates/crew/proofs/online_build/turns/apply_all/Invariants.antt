@@ -1,6 +1,6 @@
 use Rattle.std.proofs.Common.{◌≡◌, length}
 use Rattle.crew.specs.Places.{GoesOnWith, stakes_beside}
-use Rattle.crew.proofs.online_build.apply_all.Given as goal
+use Rattle.crew.proofs.online_build.turns.apply_all.Given as goal
 
 abbrev pub invariant-loop-index : goal.invariant-loop-index
 invariant-loop-index g l = record {

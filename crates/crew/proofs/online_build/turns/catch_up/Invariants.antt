@@ -1,14 +1,14 @@
 use Rattle.std.proofs.Common.{◌≡◌, ◌≤◌, ◌<◌, ◌*◌, ◌-◌, ◌^◌, length}
 use Rattle.crew.specs.Places.{GoesOnWith, stakes_beside}
-use Rattle.crew.proofs.online_build.catch_up.Given as goal
+use Rattle.crew.proofs.online_build.turns.catch_up.Given as goal
 
 abbrev pub invariant-loop-report : goal.invariant-loop-report
 invariant-loop-report g l = record {
   goes_on : GoesOnWith (length l.plan.specs.items) l.plan.specs.items l.building;
   stakes : stakes_beside l.building ≡ stakes_beside l.fn.building;
   few : l.known.first < 2 ^ 63;
-  taken : 256 * l.turns ≤ l.known.taken;
-  bounded : 128 * l.turns ≤ l.known.first;
+  taken : 1025 * l.turns ≤ l.known.taken;
+  bounded : 1025 * l.turns ≤ 2 * l.known.first;
 }
 
 abbrev pub decreases-loop-report : goal.decreases-loop-report
