@@ -18,8 +18,11 @@ use std::sync::Wait;
 /// The most entries that a switch takes, over all indexes.
 const SWITCH_MOST: usize = 1_024;
 
-/// The most entries of an index that one turn takes. Sessions wait for one turn at the most, and its entries are applied more quickly the more they are.
-const BATCH_MOST: usize = 16_384;
+/// The most entries that one turn takes, over all indexes. They are applied the more quickly the more they are, but sessions wait for a turn at the most.
+const TURN_MOST: usize = 16_384;
+
+/// The fewest that a turn takes of an index that has as many left.
+const BATCH_LEAST: usize = 2_048;
 
 /// How much room a queue for a batch has beyond its entries: two chunks.
 const BATCH_SPARE: usize = 2_048;
@@ -76,7 +79,8 @@ fn take_turn<S: Spool, T: Opened, R: Wait>(
     ensures ends { IfErr result (EndsFor plan.now.specs.items) }
     ensures stakes { stakes_beside building.new ≡ stakes_beside building.old }
 {
-    let batches = room_for_batches(alloc, plan.specs.len(), BATCH_MOST)?;
+    let most = most_of_each(plan.specs.len());
+    let batches = room_for_batches(alloc, plan.specs.len(), most)?;
     let mut locked = table.lock().lock(rt);
     let left = locked.settle(*known, building)?;
     if left <= SWITCH_MOST {
@@ -86,12 +90,20 @@ fn take_turn<S: Spool, T: Opened, R: Wait>(
         };
         return Ok(Some(locked.switch(alloc, plan.keep_pairs, caught_up, building)?));
     }
-    let fed = locked.feed_all(BATCH_MOST, batches, building);
+    let fed = locked.feed_all(most, batches, building);
     drop(locked);
     table.credit_given().notify_all();
     *known = known.after_taking(fed);
     apply_all(alloc, plan, building)?;
     Ok(None)
+}
+
+/// How many entries a turn takes of each of so many indexes.
+fn most_of_each(indexes: usize) -> usize
+    ensures some { 2048 ≤ result }
+    ensures few { result ≤ 16384 }
+{
+    (TURN_MOST / indexes.max(1)).max(BATCH_LEAST).min(TURN_MOST)
 }
 
 /// A queue for each index, into which a batch of so many entries can be moved while the lock is held.
