@@ -107,7 +107,11 @@ fn most_of_each(indexes: usize) -> usize
 }
 
 /// A queue for each index, into which a batch of so many entries can be moved while the lock is held.
-fn room_for_batches(alloc: Global, indexes: usize, most: usize) -> Result<Vec<ChunkQueue<Entry>>, Fault>
+fn room_for_batches(
+    alloc: Global,
+    indexes: usize,
+    most: usize,
+) -> Result<Vec<ChunkQueue<Entry>>, Fault>
     requires countable { most + 2048 < 2 ^ 64 }
     ensures many { IfOk result (λ batches. length batches.items ≡ indexes) }
     ensures room { IfOk result (λ batches. All (HasRoomForBatch most) batches.items) }

@@ -1,19 +1,17 @@
 //! The side-files of a build, one for each index: their entries go into their rings, and from there to the indexes.
-ghost use Rattle.std.specs.Prelude.{◌≡◌, ◌+◌, ◌<◌, ◌≤◌, [], None, Some, slice_get, IfSome, IfOk, IfErr, OnOk, OnErr};
+ghost use Rattle.std.specs.Prelude.{◌≡◌, ◌<◌, None, Some, slice_get, IfSome, IfOk, IfErr, OnOk, OnErr};
 ghost use Rattle.building.specs.BuildingValue.{BuildingValue};
 ghost use Rattle.live_lemmas.specs.Builds.{core_state, cause_of, StandsBeside, SideIsLooked, SeesSideAt, HasFed};
 ghost use Rattle.live_lemmas.specs.Putting.{SendsOn};
-ghost use Rattle.live_lemmas.specs.Settling.{HasFedBatch, HasRoomForBatch};
 ghost use Rattle.table_scan.specs.TableBuilds.{BuildFollows};
 ghost use Rattle.table_scan.specs.SideFiles.{AreFedEntries, side_refusal};
 ghost use Rattle.build_events.specs.BuildSteps.{Feeds, Applies, AppliesSome};
 ghost use Rattle.build_events.specs.declared.event.Event.{Event};
 
 use crate::{Building, Live, TableRings};
-use chunk_list::ChunkQueue;
 use keybytes::Fault;
 use run_spool::Spool;
-use side_file::{Entry, RING_ENTRIES};
+use side_file::RING_ENTRIES;
 
 impl<T: TableRings> Live<T> {
     /// Moves the next entries of an index's side-file into its ring, and answers how many: at most `most`, a ring's 256, and as many
@@ -34,24 +32,6 @@ impl<T: TableRings> Live<T> {
         side.laws();
         build.note_fed(index, count);
         Ok(count)
-    }
-
-    /// Moves the first entries that an index's side-file has left into its ring as one batch, by whole chunks and at most `most` together. None where
-    /// this end of the ring knows no place. Takes no memory.
-    pub(crate) fn feed_batch(&mut self, index: usize, most: usize, batch: ChunkQueue<Entry>) -> usize
-        requires there { side_refusal self.old.state.build index ≡ None }
-        requires room { HasRoomForBatch most batch }
-        ensures fed { HasFedBatch index most self.old result self.new }
-        ensures works { (building : BuildingValue) → StandsBeside self.old building → StandsBeside self.new building }
-    {
-        let Some(build) = &mut self.build else {
-            unreachable!()
-        };
-        let side = &mut self.sides[index];
-        let count = side.feed_batch(most, batch);
-        side.laws();
-        build.note_fed(index, count);
-        count
     }
 
     /// How many entries wait in an index's ring, with both its ends at hand.

@@ -3,9 +3,11 @@ ghost use Rattle.std.specs.Prelude.{◌≡◌, ◌⊎◌, ℕ, ◌+◌, ◌^◌,
 ghost use Rattle.build_events.specs.Workers.{unfed};
 ghost use Rattle.build_events.specs.BuildSteps.{CatchesUp, OnBuild};
 ghost use Rattle.build_events.specs.declared.event.Event.{Event};
+ghost use Rattle.table_scan.specs.SideFiles.{side_refusal};
+ghost use Rattle.building.specs.BuildingValue.{BuildingValue};
 ghost use Rattle.live_lemmas.specs.Builds.{core_state, cause_of, StandsBeside};
 ghost use Rattle.live_lemmas.specs.CatchingUp.{MayCatchUp, IndexIsFurther};
-ghost use Rattle.live_lemmas.specs.Settling.{FeedsBatch, HasRoomForBatch, IsSettled, OnlyFeeds, Settles, ring_at, waiting_in};
+ghost use Rattle.live_lemmas.specs.Settling.{FeedsBatch, HasFedBatch, HasRoomForBatch, IsSettled, OnlyFeeds, Settles, ring_at, waiting_in};
 ghost use Rattle.live_lemmas.specs.Switching.{IsPartOf, KeepsOut};
 
 use crate::{Building, Live, TableRings};
@@ -152,5 +154,23 @@ impl<T: TableRings> Live<T> {
         let _pages = &self.pages;
         self.look_at_side(index, building);
         self.feed_batch(index, most, batch)
+    }
+
+    /// Moves the first entries that an index's side-file has left into its ring as one batch, by whole chunks and at most `most` together. None where
+    /// this end of the ring knows no place. Takes no memory.
+    fn feed_batch(&mut self, index: usize, most: usize, batch: ChunkQueue<Entry>) -> usize
+        requires there { side_refusal self.old.state.build index ≡ None }
+        requires room { HasRoomForBatch most batch }
+        ensures fed { HasFedBatch index most self.old result self.new }
+        ensures works { (building : BuildingValue) → StandsBeside self.old building → StandsBeside self.new building }
+    {
+        let Some(build) = &mut self.build else {
+            unreachable!()
+        };
+        let side = &mut self.sides[index];
+        let count = side.feed_batch(most, batch);
+        side.laws();
+        build.note_fed(index, count);
+        count
     }
 }

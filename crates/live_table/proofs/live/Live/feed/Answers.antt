@@ -32,7 +32,7 @@ use Rattle.visibility.specs.SideEntries.{SideEntry}
 fed_from :
     (g : given.Over) (c : After-laws g)
     → IsFedFrom c.self.inside.heap.state c.in-Some.build c.args.index c.self.inside.sides.items c.index_mut-side.result.now c.feed-count.result
-        c.feed-count.new.self
+    c.feed-count.new.self
 fed_from g c =
     let heap : HeapState = c.self.inside.heap.state in
     let b : BuildState = c.in-Some.build in

@@ -36,7 +36,7 @@ no_more most left count few takes = elim takes [
 fed_from :
     (g : given.Over) (c : After-laws g)
     → IsFedFrom c.self.inside.heap.state c.in-Some.build c.args.index c.self.inside.sides.items c.index_mut-side.result.now c.feed_batch-count.result
-        c.feed_batch-count.new.self
+    c.feed_batch-count.new.self
 fed_from g c =
     let heap : HeapState = c.self.inside.heap.state in
     let b : BuildState = c.in-Some.build in
