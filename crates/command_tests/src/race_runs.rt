@@ -257,7 +257,7 @@ pages,0
 scanning, pages: 1 of 2, changes left: 0
 loading, indexes: 1, pairs: 3, changes left: 0
 loading, indexes: 2, pairs: 6, changes left: 0
-catching up, try: 1, changes left: 0, busy transactions: 0
+catching up, try: 1, changes left: 0, sessions waiting: 0, busy transactions: 0
 ",
         ..SCRIPT
     },
@@ -279,7 +279,7 @@ pages,0
 \r\x1b[Kscanning, pages: 1 of 2, changes left: 0\
 \r\x1b[Kloading, indexes: 1, pairs: 3, changes left: 0\
 \r\x1b[Kloading, indexes: 2, pairs: 6, changes left: 0\
-\r\x1b[Kcatching up, try: 1, changes left: 0, busy transactions: 0\
+\r\x1b[Kcatching up, try: 1, changes left: 0, sessions waiting: 0, busy transactions: 0\
 \r\x1b[K",
         ..SCRIPT
     },

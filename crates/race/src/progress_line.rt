@@ -88,6 +88,7 @@ fn write_phase<W: Write>(out: &mut W, progress: Progress) -> io::Result<()> {
         entries,
         tries,
         busy,
+        waiting,
     } = progress;
     match phase {
         Phase::Idle => write!(out, "no build"),
@@ -101,7 +102,7 @@ fn write_phase<W: Write>(out: &mut W, progress: Progress) -> io::Result<()> {
         ),
         Phase::CatchingUp => write!(
             out,
-            "catching up, try: {tries}, changes left: {entries}, busy transactions: {busy}"
+            "catching up, try: {tries}, changes left: {entries}, sessions waiting: {waiting}, busy transactions: {busy}"
         ),
     }
 }
