@@ -1,17 +1,17 @@
-use Rattle.std.proofs.Common.{◌≡◌, ◌<◌, ◌∙◌, length, Option, None, Some, ap, subst}
+use Rattle.std.proofs.Common.{◌≡◌, ℕ, ◌<◌, ◌∙◌, length, Option, None, Some, refl, ap, subst}
 use Rattle.build_events.specs.BuildSteps.{OnBuild}
 use Rattle.build_events.specs.CoreState.{BuildState, LiveState}
 use Rattle.live_lemmas.specs.Builds.{LiveValue}
 use Rattle.table_scan.specs.SideFiles.{side_refusal}
+use Rattle.live_lemmas.proofs.ApplyCauses.{inside_of}
 use Rattle.live_lemmas.proofs.FedBeside.{batch_beside}
 use Rattle.live_lemmas.proofs.Feeding.{works_side_looked}
-use Rattle.live_lemmas.proofs.Settling.{side_free}
 use Rattle.live_table.proofs.live.Live.feed_one.Goals as goal
 
 -- there is a side-file for each index of a build
 free_of : (o : Option BuildState) (index : ℕ) → OnBuild o (λ b. index < length b.specs) → side_refusal o index ≡ None
 free_of None index there = absurd there
-free_of (Some b) index there = side_free (Some b) index tt there
+free_of (Some b) index there = rw (inside_of b index there) refl
 
 pub feed_batch-requires-clause-there : goal.feed_batch-requires-clause-there
 feed_batch-requires-clause-there g c =
