@@ -51,6 +51,8 @@ pub struct Meeting {
     pub further: usize,
     /// How many indexes are ready then, and how many pairs they have, or why the build is given up.
     pub told: Result<(usize, usize), Fault>,
+    /// How many entries waited when the build began to catch up, and how many turns took some before the switch, where that is known.
+    pub caught_up: Option<(usize, usize)>,
     /// How many receipts there are at least and at most, and how many records are missing.
     pub given: (usize, usize),
     pub missing: usize,
@@ -79,6 +81,7 @@ start,1,4,even:1,n:0
     is_known: false,
     further: 0,
     told: Ok((1, 7)),
+    caught_up: None,
     given: (1, 1),
     missing: 0,
     seen: &[],
@@ -139,6 +142,14 @@ fn is_read<T: Opened, R: Wait>(
     pairs.len() == ready && session.pairs(rt, alloc, ready).is_err()
 }
 
+/// Whether it caught up as it should, where that is known.
+fn has_caught_up<T: Opened>(report: &Report<T>, wanted: Option<(usize, usize)>) -> bool {
+    match wanted {
+        Some(wanted) => (report.caught_up.waited, report.caught_up.turns) == wanted,
+        None => true,
+    }
+}
+
 /// Whether a build tells the pairs that it should.
 fn is_report<T: Opened, R: Wait>(
     rt: &R,
@@ -184,6 +195,7 @@ fn met<S: Spool + Send, T: Opened + Send + Sync, R: Threads + Wait + Sync>(
     if let Some(Ok(report)) = &told {
         let specs = asked.plan.specs.as_slice();
         is_fine &= is_report(rt, alloc, &mut session, report, &receipts, specs, meeting);
+        is_fine &= has_caught_up(report, meeting.caught_up);
     }
     is_fine &= does(
         rt,

@@ -3,7 +3,7 @@
 use crate::meetings::{Meeting, WHOLE, expect};
 use crate::programs::{IDLE, Program};
 use crate::rows::{Rows, SEVEN};
-use crate::watch::Holds;
+use crate::watch::{FREE, Holds};
 
 /// A row in a transaction of its own, whenever somebody asks.
 pub static ROW: Program = Program {
@@ -31,8 +31,8 @@ start,2,4,even:2,n:0
     is_held: true,
     holds: &Holds {
         until: [1, 1],
-        yields: 0,
         is_asking: true,
+        ..FREE
     },
     place: 4,
     further: 4,
@@ -41,6 +41,29 @@ start,2,4,even:2,n:0
     seen: &[0xff_ffff_ffff_ffff, 28, 28],
     ..WHOLE
 }];
+
+/// Before the build catches up 1,100 rows are inserted, which make 2,200 entries of its two indexes: more than a switch
+/// takes, so that one turn takes them all before it.
+static BACKLOG: [Meeting; 1] = [Meeting {
+    script: "table,255,int,int
+start,2,4,even:2,n:0,n:1
+",
+    holds: &Holds {
+        backlog: 1100,
+        ..FREE
+    },
+    place: 4,
+    further: 1100,
+    told: Ok((2, 2214)),
+    given: (2201, 2201),
+    caught_up: Some((2200, 1)),
+    ..WHOLE
+}];
+
+#[test]
+fn gate_backlog(rt: HostRuntime) {
+    expect(&rt, rt.alloc(), &BACKLOG);
+}
 
 #[test]
 fn gate_overlap(rt: HostRuntime) {

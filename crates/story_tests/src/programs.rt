@@ -237,14 +237,15 @@ fn goes_beside<T: Opened, R: Wait>(
     false
 }
 
-/// Whether the table tells that its pages are being copied, and that entries wait.
-fn is_scanning<T: Opened, R: Wait>(rt: &R, table: &Table<T>) -> bool {
+/// Whether the table tells that entries wait, and that its pages are being copied, or that it is about to catch up.
+fn is_asking<T: Opened, R: Wait>(rt: &R, table: &Table<T>) -> bool {
     let progress = table.progress(rt);
-    progress.phase == Phase::Scanning
-        && progress.pages == 56
-        && progress.scanned > 0
-        && progress.entries > 0
-        && progress.loaded == 0
+    let is_where = match progress.phase {
+        Phase::Scanning => progress.pages == 56 && progress.scanned > 0 && progress.loaded == 0,
+        Phase::CatchingUp => progress.tries == 1 && progress.loaded > 0,
+        _ => false,
+    };
+    is_where && progress.entries > 0 && progress.waiting == 0
 }
 
 /// Whether the rounds go well for which somebody asks, until the build has returned.
@@ -261,7 +262,7 @@ fn goes_when_asked<T: Opened, R: Wait>(
         let next = watch.answered.load(Ordering::SeqCst).saturating_add(1);
         if next <= watch.asked.load(Ordering::SeqCst) {
             if !does_round(rt, alloc, session, receipts, program, program.behind, 0)
-                || !is_scanning(rt, table)
+                || !is_asking(rt, table)
             {
                 return false;
             }

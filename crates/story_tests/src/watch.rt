@@ -33,6 +33,8 @@ pub struct Holds {
     /// Whether who is held asks for an insert, and goes on only once the session has begun one since and has its
     /// answer.
     pub is_asking: bool,
+    /// For how many rounds of a session the first try of the switch asks, before the build catches up.
+    pub backlog: u64,
 }
 
 /// Nobody is held.
@@ -40,6 +42,7 @@ pub const FREE: Holds = Holds {
     until: [0, 0],
     yields: 0,
     is_asking: false,
+    backlog: 0,
 };
 
 /// Keeps what is told, and holds either worker at its first page.
@@ -48,10 +51,11 @@ pub struct Watch {
     until: [u64; 2],
     yields: u32,
     is_asking: bool,
+    backlog: u64,
     /// Whether ranges are dealt to the threads of the workers.
     is_dealt: bool,
     counts: [AtomicU64; 8],
-    /// How many inserts were asked for, and how many of these were answered.
+    /// How many rounds of inserts were asked for, and how many of these were answered.
     pub asked: AtomicU64,
     pub answered: AtomicU64,
     gave_up: AtomicBool,
@@ -65,6 +69,7 @@ impl Watch {
             until: holds.until,
             yields: holds.yields,
             is_asking: holds.is_asking,
+            backlog: holds.backlog,
             is_dealt,
             counts: [
                 AtomicU64::new(0),
@@ -103,15 +108,31 @@ impl Watch {
     /// Holds the caller until the other of two workers has copied so many pages and, where that is wanted, an insert that
     /// began since was answered.
     pub fn hold(&self, other: usize, until: u64) {
-        let mut insert = 0;
-        if self.is_asking {
-            insert = self.asked.fetch_add(1, Ordering::SeqCst).saturating_add(1);
-        }
+        let insert = if self.is_asking { self.ask(1) } else { 0 };
         for _ in 0..LOOKS {
             thread::yield_now();
             if self.answered.load(Ordering::SeqCst) >= insert
                 && self.counts[COPIES + other.min(1)].load(Ordering::SeqCst) >= until
             {
+                return;
+            }
+        }
+        self.gave_up.store(true, Ordering::SeqCst);
+    }
+
+    /// Asks for so many rounds more, and answers how many were asked for then.
+    fn ask(&self, rounds: u64) -> u64 {
+        self.asked
+            .fetch_add(rounds, Ordering::SeqCst)
+            .saturating_add(rounds)
+    }
+
+    /// Asks for the rounds that are to wait for the build, and holds the caller until they are answered.
+    fn hold_for_backlog(&self) {
+        let rounds = self.ask(self.backlog);
+        for _ in 0..LOOKS {
+            thread::yield_now();
+            if self.answered.load(Ordering::SeqCst) >= rounds {
                 return;
             }
         }
@@ -137,8 +158,11 @@ impl Gate for Watch {
             Point::Loaded { index } => {
                 self.add(LOADED + index.min(1), 1);
             }
-            Point::Try { .. } => {
+            Point::Try { n } => {
                 self.add(TRIES, 1);
+                if n == 1 && self.backlog > 0 {
+                    self.hold_for_backlog();
+                }
             }
         }
     }
