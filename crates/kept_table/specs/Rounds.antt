@@ -59,7 +59,7 @@ pub record StopsRound (index most : ℕ) (old : CoreState) (fault : Fault) (new 
 pub record Moves (index least : ℕ) (old new : CoreState) : Type 0 where
   pub works : WorksOn old new
   pub entries : All MovesEntries works.events
-  pub least : least ≤ unfed_of new index
+  pub left : least ≤ unfed_of new index
   pub others : KeepsOthers index old new
 
 -- until just so many are left, and nothing waits in the ring
@@ -74,7 +74,7 @@ pub record StopsMoving (index least : ℕ) (old : CoreState) (fault : Fault) (ne
   pub due : List Event
   pub entries : All MovesEntries due
   pub stops : StopsWork due old fault new
-  pub least : least ≤ unfed_of new index
+  pub left : least ≤ unfed_of new index
   pub others : (other : ℕ) → (other ≡ index → ⊥) → unfed_of new other ≡ unfed_of old other
 
 -- so much is done of all indexes, and nothing waits in their rings
@@ -87,6 +87,7 @@ pub record MovesEach (most : ℕ) (waited : Option (List ℕ)) (old new : CoreSt
 
 -- or until an event is refused, and no more was fed of any
 pub record StopsEach (most : ℕ) (waited : Option (List ℕ)) (old : CoreState) (fault : Fault) (new : CoreState) : Type 0 where
+  pub some_indexes : 0 < index_count old.live.build
   pub due : List Event
   pub entries : All MovesEntries due
   pub stops : StopsWork due old fault new
