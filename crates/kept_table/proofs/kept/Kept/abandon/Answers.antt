@@ -9,10 +9,10 @@ use Rattle.kept_table.proofs.kept.Kept.abandon.Goals as goal
 
 pub returns-clause-abandoned : goal.returns-clause-abandoned
 returns-clause-abandoned c =
-    on_table (λ (s : CoreState). OnOk c.abandoned-table.result.1 (EndsBuild Abandon Abandoned s c.abandoned-table.result.0.core)) c.args.self.now c.self.inside.table c.self.inside.decided
+    on_table (λ (s : CoreState). OnOk c.abandoned-table.result.1 (EndsBuild Abandon Abandoned s c.abandoned-table.result.0.core)) c.args.self.now c.self.inside.table c.self.inside.decided c.self.inside.waited
     c.taken.result c.self.view_is c.taken.ensures c.abandoned-table.ensures.abandoned
 
 pub returns-clause-refused : goal.returns-clause-refused
 returns-clause-refused c =
-    on_table (λ (s : CoreState). IfErr c.abandoned-table.result.1 (λ fault. Step s Abandon (Refused fault) c.abandoned-table.result.0.core)) c.args.self.now c.self.inside.table c.self.inside.decided
+    on_table (λ (s : CoreState). IfErr c.abandoned-table.result.1 (λ fault. Step s Abandon (Refused fault) c.abandoned-table.result.0.core)) c.args.self.now c.self.inside.table c.self.inside.decided c.self.inside.waited
     c.taken.result c.self.view_is c.taken.ensures c.abandoned-table.ensures.refused
