@@ -2,10 +2,9 @@ use Rattle.build_events.specs.declared.reply.Reply.TheVariants.{Started}
 use Rattle.kept_table.specs.Starts.{RefusesStart, start_limits_refusal}
 use Rattle.leased_core.specs.Leasing.{StartsOver}
 use Rattle.std.proofs.Common.{◌≡◌, None}
-use Rattle.std.proofs.lemmas.Result.{on_err_weaker}
 use Rattle.std.specs.Prelude.{IfErr, IfOk, OnOk}
 use Rattle.build_events.specs.CoreState.{CoreState}
-use Rattle.kept_table.proofs.Tables.{on_table, same_table}
+use Rattle.kept_table.proofs.Tables.{forgotten, not_forgotten, on_table, unchanged_kept}
 use Rattle.kept_table.proofs.kept.Kept.start.Goals as goal
 
 pub returns-clause-started : goal.returns-clause-started
@@ -25,6 +24,11 @@ returns-clause-refused c =
 
 pub returns-clause-unchanged : goal.returns-clause-unchanged
 returns-clause-unchanged c =
-    on_err_weaker c.started-table.result.1
-    (same_table c.args.self.now c.self.inside.table c.self.inside.decided c.self.inside.waited c.taken.result c.started-table.result.0 c.self.view_is c.taken.ensures)
+    unchanged_kept c.started-table.result.1 c.args.self.now c.self.inside.table c.self.inside.decided c.self.inside.waited c.forget_if.new.waited
+    c.taken.result c.started-table.result.0 c.self.view_is c.taken.ensures
+    (not_forgotten c.started-table.result.1 c.is_ok.result c.self.inside.waited c.forget_if.new.waited c.is_ok.ensures c.forget_if.ensures)
     c.started-table.ensures.unchanged
+
+pub returns-clause-waited : goal.returns-clause-waited
+returns-clause-waited c =
+    forgotten c.started-table.result.1 c.is_ok.result c.self.inside.waited c.forget_if.new.waited c.is_ok.ensures c.forget_if.ensures

@@ -3,7 +3,7 @@ use Rattle.kept_table.specs.KeptTables.{KeptValue}
 use Rattle.std.proofs.Common.{◌≡◌}
 use Rattle.std.specs.Prelude.{IfErr, IfOk, IsSomeAnd, OnErr}
 use Rattle.build_events.specs.CoreState.{CoreState}
-use Rattle.kept_table.proofs.Tables.{on_kept, on_table}
+use Rattle.kept_table.proofs.Tables.{forgotten, not_forgotten, on_kept, on_table}
 use Rattle.kept_table.proofs.kept.Kept.switch.Goals as goal
 
 pub returns-clause-decided : goal.returns-clause-decided
@@ -20,3 +20,13 @@ pub returns-clause-kept : goal.returns-clause-kept
 returns-clause-kept c =
     on_kept (λ (k : KeptValue). OnErr c.switched-table.result.1 (c.switched-table.new.decided ≡ k.decided)) c.args.self.now c.self.inside.table c.self.inside.decided c.self.inside.waited
     c.taken.result c.self.view_is c.taken.ensures c.switched-table.ensures.kept
+
+pub returns-clause-forgotten : goal.returns-clause-forgotten
+returns-clause-forgotten c =
+    forgotten c.switched-table.result.1 c.is_ok.result c.self.inside.waited c.forget_if.new.waited c.is_ok.ensures c.forget_if.ensures
+
+pub returns-clause-waited : goal.returns-clause-waited
+returns-clause-waited c =
+    on_kept (λ (k : KeptValue). OnErr c.switched-table.result.1 (c.forget_if.new.waited ≡ k.waited)) c.args.self.now
+    c.self.inside.table c.self.inside.decided c.self.inside.waited c.taken.result c.self.view_is c.taken.ensures
+    (not_forgotten c.switched-table.result.1 c.is_ok.result c.self.inside.waited c.forget_if.new.waited c.is_ok.ensures c.forget_if.ensures)
