@@ -19,6 +19,7 @@ use Rattle.page_workers.proofs.worker.Worker.TheSendSync as worker
 use Rattle.table_scan.proofs.table_scan.TableScan.TheSendSync as scan
 use Rattle.leased_core.proofs.leases.Leases.TheSendSync as leases
 use Rattle.kept_table.proofs.decided.Decided.TheSendSync as decided
+use Rattle.kept_table.proofs.waits.Waits.TheSendSync as waits
 use Rattle.page_workers.specs.contracts.intake.Intake as Intake
 use Rattle.page_workers.specs.contracts.worker.Worker as Worker
 use Rattle.building.specs.contracts.work.Work as Work
@@ -70,4 +71,4 @@ counted_send : IsSend UnnamedCounted.the_row
 counted_send = search (leased_send, sendable) depth 20
 
 pub kept_send : IsSend Kept.the_row
-kept_send = search (counted_send, decided.the_send, sendable) depth 20
+kept_send = search (counted_send, decided.the_send, waits.the_send, sendable) depth 20

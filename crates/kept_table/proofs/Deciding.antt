@@ -1,28 +1,32 @@
 -- The switch after the turns of the indexes.
-use Rattle.std.proofs.Common.{◌≡◌, ℕ, Bool, true, false, [], length, Option, None, Some, IsSomeAnd, refl, sym, ap, ◌∙◌, subst, inl, inr}
-use Rattle.std.specs.Prelude.{◌⊎◌, ◌&&◌, nat_lt, IfSome}
+use Rattle.std.proofs.Common.{◌≡◌, ℕ, List, length, Option, None, Some, IsSomeAnd, refl, sym, ap, ◌∙◌, subst, inl, inr, arith}
+use Rattle.std.specs.Prelude.{◌&&◌, nat_lt, IfSome}
 use Rattle.std.specs.List.{list_any}
 use Rattle.std.proofs.lemmas.Option.{same_Some}
 use Rattle.keybytes.specs.Faults.{first_cause}
 use Rattle.keybytes.specs.declared.fault.Fault.{Fault}
 use Rattle.keybytes.specs.declared.fault.Fault.TheVariants.{Behind, Busy, Memory, NoBuild}
 use Rattle.heap_table.specs.HeapState.{busy_txns}
-use Rattle.build_events.specs.BuildSteps.{behind_refusal, build_cause, busy_refusal, cause_if, switch_most, switch_refusal}
+use Rattle.build_events.specs.BuildSteps.{behind_refusal, build_cause, busy_refusal, switch_most, switch_refusal}
 use Rattle.build_events.specs.CoreState.{BuildState, CoreState}
 use Rattle.build_events.specs.Ranges.{open_range}
-use Rattle.build_events.specs.Steps.{IsWorkWant, refusal}
+use Rattle.build_events.specs.Steps.{refusal}
 use Rattle.build_events.specs.Workers.{all_unapplied, unloaded_index}
 use Rattle.build_events.specs.declared.event.Event.TheVariants.{Switch}
 use Rattle.build_events.specs.declared.reply.Reply.TheVariants.{Refused}
+use Rattle.kept_table.specs.CatchingUp.{AreKept}
 use Rattle.kept_table.specs.Counts.{HasLaws}
 use Rattle.kept_table.specs.Decisions.{Decides, FailsToDecide}
 use Rattle.kept_table.specs.KeptTables.{DecidedValue}
-use Rattle.kept_table.specs.Pieces.{DoesPiece, FailsToAdvance, IsPrepared, IsUndecided, WorksToTheEnd, most_of, turns}
+use Rattle.kept_table.specs.Pieces.{DoesPiece, FailsToAdvance, IsPrepared, IsUndecided, NotesWaits, WorksToTheEnd, most_of}
 use Rattle.kept_table.specs.Progresses.{index_count}
-use Rattle.kept_table.specs.Shapes.{DoesAll}
+use Rattle.kept_table.specs.Rounds.{MovesEach}
+use Rattle.kept_table.proofs.Causes.{first_or, if_told, spoiled_want}
 use Rattle.kept_table.proofs.Counts.{laws_of}
-use Rattle.kept_table.proofs.DuePieces.{some_turns, turns_due}
-use Rattle.kept_table.proofs.Pieces.{nothing_done, same_fault}
+use Rattle.kept_table.proofs.DuePieces.{moves_due}
+use Rattle.kept_table.proofs.Pieces.{same_fault}
+use Rattle.kept_table.proofs.Rounds.{catches_up, leaves_all}
+use Rattle.kept_table.proofs.Shapes.{none_left}
 
 -- a switch that is refused since it is behind changes nothing
 behind_told : (s new : CoreState) (left : ℕ) → FailsToDecide s (Behind left) new → (new ≡ s) × (refusal s Switch ≡ Some (Behind left))
@@ -33,58 +37,42 @@ behind_told s new left (inr (inl (told, is, inr (cause, want, after)))) =
 behind_told s new left (inr (inr (cause, does))) = absurd (let is = does.1 in cc)
 
 pub piece_behind :
-    (most left : ℕ) (old mid new : CoreState) → IsPrepared old → HasLaws old → DoesAll (turns (most_of most) (index_count old.live.build)) old mid
-    → FailsToDecide mid (Behind left) new → DoesPiece most old new
-piece_behind most left old mid new prepared laws done fails = at old.live.build refl where
+    (most left : ℕ) (waited : Option (List ℕ)) (old mid new : CoreState) → IsPrepared old → HasLaws old → HasLaws mid
+    → MovesEach (most_of most) waited old mid → FailsToDecide mid (Behind left) new → DoesPiece most waited old new
+piece_behind most left waited old mid new prepared laws kept moved fails = at old.live.build refl where
   told : (new ≡ mid) × (refusal mid Switch ≡ Some (Behind left))
   told = behind_told mid new left fails
 
-  here : DoesAll (turns (most_of most) (index_count old.live.build)) old new
-  here = subst (λ (s : CoreState). DoesAll (turns (most_of most) (index_count old.live.build)) old s) (sym told.0) done
+  here : MovesEach (most_of most) waited old new
+  here = subst (λ (s : CoreState). MovesEach (most_of most) waited old s) (sym told.0) moved
 
   cause : refusal new Switch ≡ Some (Behind left)
   cause = ap (λ (s : CoreState). refusal s Switch) told.0 ∙ told.1
 
-  at : (o : Option BuildState) → old.live.build ≡ o → DoesPiece most old new
+  at : (o : Option BuildState) → old.live.build ≡ o → DoesPiece most waited old new
   at None none = absurd (
-      let nothing : DoesAll [] old new =
-      subst (λ (o : Option BuildState). DoesAll (turns (most_of most) (index_count o)) old new) none here in
-      let of_old : refusal old Switch ≡ Some (Behind left) = ap (λ (s : CoreState). refusal s Switch) (sym (nothing_done old new nothing)) ∙ cause in
+      let gone : new.live.build ≡ None = none_left old new here.works none in
       let bad : Some NoBuild ≡ Some (Behind left) =
-      subst (λ (o : Option BuildState). build_cause o (λ b. switch_refusal b old.live.heap old.work) ≡ Some (Behind left)) none of_old in
+      subst (λ (o : Option BuildState). build_cause o (λ b. switch_refusal b new.live.heap new.work) ≡ Some (Behind left)) gone cause in
       cc
       )
-  at (Some b) runs =
-      let are : here.0.events ≡ turns (most_of most) (length b.specs) =
-      here.1 ∙ ap (λ (o : Option BuildState). turns (most_of most) (index_count o)) runs in
-      record {
-        works = here.0;
-        due = turns_due most old b here.0.events runs prepared are;
-        some = λ none. some_turns (most_of most) (length b.specs) (laws_of old b runs laws).some_indexes (sym are ∙ none);
-        behind = λ _. (left, cause);
-      }
+  at (Some b) runs = record {
+    works = here.works;
+    due = moves_due old b here.works.events runs prepared here.entries;
+    some = here.some (omega (arith, (laws_of old b runs laws).some_indexes, ap index_count runs));
+    leaves = λ _. leaves_all (most_of most) waited old new laws (subst HasLaws (sym told.0) kept) here;
+    behind = λ _. (left, cause);
+  }
 
 pub ends_work :
-    (most : ℕ) (old mid new : CoreState) (number : ℕ) (decided : Option DecidedValue)
-    → DoesAll (turns (most_of most) (index_count old.live.build)) old mid → IsSomeAnd decided (λ told. Decides mid number told new)
-    → IsSomeAnd decided (λ told. WorksToTheEnd most old told new)
-ends_work most old mid new number None done decides = absurd decides
-ends_work most old mid new number (Some decided) done decides =
-    record { mid = mid; works = done.0; turns_of_all = done.1; number = number; decides = decides }
+    (most : ℕ) (waited : Option (List ℕ)) (old mid new : CoreState) (number : ℕ) (decided : Option DecidedValue) → HasLaws old → HasLaws mid
+    → MovesEach (most_of most) waited old mid → IsSomeAnd decided (λ told. Decides mid number told new)
+    → IsSomeAnd decided (λ told. WorksToTheEnd most waited old told new)
+ends_work most waited old mid new number None laws kept moved decides = absurd decides
+ends_work most waited old mid new number (Some decided) laws kept moved decides =
+    record { mid = mid; caught_up = catches_up (most_of most) waited old mid laws kept moved; number = number; decides = decides }
 
 -- Why a switch doesn't decide.
-
-pub if_told : (test : Bool) (told fault : Fault) → cause_if test told ≡ Some fault → fault ≡ told
-if_told true told fault is = sym (same_Some told fault is)
-if_told false told fault is = absurd (cc)
-
--- the first cause is that one, or it is none and the second is
-pub first_or : (first rest : Option Fault) (fault : Fault) → first_cause first rest ≡ Some fault → (first ≡ Some fault) ⊎ (rest ≡ Some fault)
-first_or None rest fault is = inr is
-first_or (Some told) rest fault is = inl is
-
-pub spoiled_want : (spoiled : Option Fault) (fault : Fault) → IfSome spoiled IsWorkWant → spoiled ≡ Some fault → IsWorkWant fault
-spoiled_want spoiled fault want is = subst (λ (o : Option Fault). IfSome o IsWorkWant) is want
 
 switch_cause :
     (s : CoreState) (fault : Fault) → IsPrepared s → HasLaws s → ((left : ℕ) → fault ≡ Behind left → ⊥) → refusal s Switch ≡ Some fault → IsUndecided fault
@@ -124,7 +112,28 @@ why_undecided s new fault prepared laws not_behind (inr (inl (told, is, inr (cau
 why_undecided s new fault prepared laws not_behind (inr (inr (cause, does))) = absurd (let is = does.1 in cc)
 
 pub works_in_vain :
-    (most : ℕ) (old mid new : CoreState) (fault : Fault) → DoesAll (turns (most_of most) (index_count old.live.build)) old mid → IsPrepared mid → HasLaws mid
-    → ((left : ℕ) → fault ≡ Behind left → ⊥) → FailsToDecide mid fault new → FailsToAdvance most old fault new
-works_in_vain most old mid new fault done prepared laws not_behind fails =
-    inr (record { mid = mid; works = done.0; turns_of_all = done.1; fails = fails; why = why_undecided mid new fault prepared laws not_behind fails })
+    (most : ℕ) (waited kept_now : Option (List ℕ)) (old mid new : CoreState) (fault : Fault) → HasLaws old → HasLaws mid
+    → MovesEach (most_of most) waited old mid → IsPrepared mid → AreKept mid kept_now
+    → ((left : ℕ) → fault ≡ Behind left → ⊥) → FailsToDecide mid fault new → FailsToAdvance most waited old fault new kept_now
+works_in_vain most waited kept_now old mid new fault laws kept moved prepared are not_behind fails =
+    inr (record {
+      mid = mid;
+      caught_up = catches_up (most_of most) waited old mid laws kept moved;
+      kept_is = are;
+      fails = fails;
+      why = why_undecided mid new fault prepared kept not_behind fails;
+    })
+
+-- What is noted of it.
+
+-- where the switch was behind nothing changed, so that just as much waits
+pub kept_behind :
+    (left : ℕ) (mid new : CoreState) (kept : Option (List ℕ)) → FailsToDecide mid (Behind left) new → AreKept mid kept → AreKept new kept
+kept_behind left mid new kept fails are = subst (λ (s : CoreState). AreKept s kept) (sym (behind_told mid new left fails).0) are
+
+pub notes_waits :
+    (old new : CoreState) (waited kept : Option (List ℕ)) → IsPrepared old → AreKept new kept → NotesWaits old waited new kept
+notes_waits old new waited kept prepared are = record { caught_up = λ _. are; others = λ not. absurd (not prepared) }
+
+pub notes_none : (old new : CoreState) (waited : Option (List ℕ)) → (IsPrepared old → ⊥) → NotesWaits old waited new waited
+notes_none old new waited not = record { caught_up = λ prepared. absurd (not prepared); others = λ _. refl }

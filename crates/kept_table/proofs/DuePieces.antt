@@ -1,19 +1,21 @@
 -- Which piece of a build is due, and that it is done or stops.
-use Rattle.std.proofs.Common.{◌≡◌, ◌≢◌, ◌<◌, ℕ, zero, suc, ◌+◌, List, [], ◌∷◌, ◌++◌, length, Option, None, Some, refl, sym, ap, ◌∙◌, subst, inl, inr, arith}
+use Rattle.std.proofs.Common.{◌≡◌, ◌≢◌, ℕ, List, [], ◌∷◌, Option, None, Some, All, refl, sym, ap, ◌∙◌, subst, inl, inr, arith}
 use Rattle.std.specs.Prelude.{◌%◌, IfSome}
-use Rattle.std.proofs.lemmas.Bool.{cases_lt}
-use Rattle.std.proofs.lemmas.List.{append_assoc}
 use Rattle.keybytes.specs.declared.fault.Fault.{Fault}
 use Rattle.build_events.specs.BuildSteps.{OnBuild}
 use Rattle.build_events.specs.CoreState.{BuildState, CoreState}
 use Rattle.build_events.specs.Ranges.{open_range}
 use Rattle.build_events.specs.Workers.{unloaded_index}
 use Rattle.build_events.specs.declared.event.Event.{Event}
-use Rattle.build_events.specs.declared.event.Event.TheVariants.{Scan, Digest, Seal, Load, Feed, Apply}
-use Rattle.kept_table.specs.Pieces.{DoesPiece, IsCopy, IsDue, IsOrdering, IsPiece, IsPrepared, StopsPiece, StopsWork, most_of, turns}
+use Rattle.build_events.specs.declared.event.Event.TheVariants.{Scan, Digest, Seal, Load}
+use Rattle.kept_table.specs.CatchingUp.{MovesEntries}
+use Rattle.kept_table.specs.Counts.{HasLaws}
+use Rattle.kept_table.specs.Pieces.{DoesPiece, IsCopy, IsDue, IsOrdering, IsPiece, IsPrepared, StopsPiece, StopsWork, most_of}
 use Rattle.kept_table.specs.Progresses.{index_count}
+use Rattle.kept_table.specs.Rounds.{StopsEach}
 use Rattle.kept_table.specs.Shapes.{DoesAll, DoesCopy, HasOpenRange, HasWorker, HasWorkers, IsUnsealed, PutsInOrder, ScansIfRoom, StopsCopy, StopsOrdering}
-use Rattle.kept_table.proofs.Pieces.{does_then, some_behind, stops_after, stops_before}
+use Rattle.kept_table.proofs.Pieces.{does_then, stops_after, stops_before}
+use Rattle.kept_table.proofs.Rounds.{leaves_no_fewer}
 
 -- A copy, and what is put in order.
 
@@ -66,37 +68,36 @@ stops_at_seal index worker old mid new fault unsealed same stops =
 
 -- what was found of the build decides which piece is next
 copy_due :
-    (most range workers : ℕ) (s : CoreState) (events : List Event) → HasOpenRange (Some range) s → HasWorkers workers s
-    → IsCopy range (range % workers) s events → IsDue most s events
-copy_due most range workers s events open_at many copy = at s.live.build open_at many where
+    (range workers : ℕ) (s : CoreState) (events : List Event) → HasOpenRange (Some range) s → HasWorkers workers s
+    → IsCopy range (range % workers) s events → IsDue s events
+copy_due range workers s events open_at many copy = at s.live.build open_at many where
   at :
       (o : Option BuildState) → OnBuild o (λ b. Some range ≡ open_range b) → OnBuild o (λ b. workers ≡ b.workers)
-      → OnBuild o (λ b. IsPiece (most_of most) b s (open_range b) (unloaded_index s.work) events)
+      → OnBuild o (λ b. IsPiece b s (open_range b) (unloaded_index s.work) events)
   at None is are = absurd is
   at (Some b) is are =
-      subst (λ (r : Option ℕ). IsPiece (most_of most) b s r (unloaded_index s.work) events) is
+      subst (λ (r : Option ℕ). IsPiece b s r (unloaded_index s.work) events) is
       (subst (λ (n : ℕ). IsCopy range (range % n) s events) are copy)
 
 ordering_due :
-    (most index : ℕ) (s : CoreState) (events : List Event) → HasOpenRange None s → unloaded_index s.work ≡ Some index → IsOrdering index s events
-    → IsDue most s events
-ordering_due most index s events scanned lowest ordering = at s.live.build scanned where
+    (index : ℕ) (s : CoreState) (events : List Event) → HasOpenRange None s → unloaded_index s.work ≡ Some index → IsOrdering index s events
+    → IsDue s events
+ordering_due index s events scanned lowest ordering = at s.live.build scanned where
   at :
       (o : Option BuildState) → OnBuild o (λ b. None ≡ open_range b)
-      → OnBuild o (λ b. IsPiece (most_of most) b s (open_range b) (unloaded_index s.work) events)
+      → OnBuild o (λ b. IsPiece b s (open_range b) (unloaded_index s.work) events)
   at None is = absurd is
   at (Some b) is =
-      subst (λ (r : Option ℕ). IsPiece (most_of most) b s r (unloaded_index s.work) events) is
-      (subst (λ (i : Option ℕ). IsPiece (most_of most) b s None i events) (sym lowest) ordering)
+      subst (λ (r : Option ℕ). IsPiece b s r (unloaded_index s.work) events) is
+      (subst (λ (i : Option ℕ). IsPiece b s None i events) (sym lowest) ordering)
 
-pub turns_due :
-    (most : ℕ) (s : CoreState) (b : BuildState) (events : List Event) → s.live.build ≡ Some b → IsPrepared s
-    → events ≡ turns (most_of most) (length b.specs) → IsDue most s events
-turns_due most s b events runs prepared are =
+pub moves_due :
+    (s : CoreState) (b : BuildState) (events : List Event) → s.live.build ≡ Some b → IsPrepared s → All MovesEntries events → IsDue s events
+moves_due s b events runs prepared moves =
     let none = subst (λ (o : Option BuildState). IfSome o (λ it. (open_range it ≡ None) × (unloaded_index s.work ≡ None))) runs prepared in
-    subst (λ (o : Option BuildState). OnBuild o (λ it. IsPiece (most_of most) it s (open_range it) (unloaded_index s.work) events)) (sym runs)
-    (subst (λ (r : Option ℕ). IsPiece (most_of most) b s r (unloaded_index s.work) events) (sym none.0)
-    (subst (λ (i : Option ℕ). IsPiece (most_of most) b s None i events) (sym none.1) are))
+    subst (λ (o : Option BuildState). OnBuild o (λ it. IsPiece it s (open_range it) (unloaded_index s.work) events)) (sym runs)
+    (subst (λ (r : Option ℕ). IsPiece b s r (unloaded_index s.work) events) (sym none.0)
+    (subst (λ (i : Option ℕ). IsPiece b s None i events) (sym none.1) moves))
 
 some_copy : (range worker : ℕ) (s : CoreState) (events : List Event) → IsCopy range worker s events → events ≢ []
 some_copy range worker s events (inl is) none = let bad : Scan range worker ∷ Digest worker ∷ [] ≡ [] = sym is ∙ none in cc
@@ -106,18 +107,14 @@ some_ordering : (index : ℕ) (s : CoreState) (events : List Event) → IsOrderi
 some_ordering index s events (inl is) none = let bad : Load index ∷ [] ≡ [] = sym is ∙ none in cc
 some_ordering index s events (inr (worker, unsealed, is)) none = let bad : Seal worker ∷ [] ≡ [] = sym is ∙ none in cc
 
-pub some_turns : (most count : ℕ) → 0 < count → turns most count ≢ []
-some_turns most zero some = absurd (omega (arith, some))
-some_turns most (suc count) some = some_behind (turns most count) (Feed count most ∷ Apply count most ∷ []) (λ none. cc)
-
--- there is something to do before the turns of the indexes
-not_copied : (range : ℕ) (s : CoreState) → HasOpenRange (Some range) s → IsPrepared s → ⊥
+-- there is something to do before entries are moved on
+pub not_copied : (range : ℕ) (s : CoreState) → HasOpenRange (Some range) s → IsPrepared s → ⊥
 not_copied range s open_at prepared = at s.live.build open_at prepared where
   at : (o : Option BuildState) → OnBuild o (λ b. Some range ≡ open_range b) → IfSome o (λ b. (open_range b ≡ None) × (unloaded_index s.work ≡ None)) → ⊥
   at None is none = is
   at (Some b) is none = let bad : Some range ≡ None = is ∙ none.0 in cc
 
-not_ordered : (index : ℕ) (s : CoreState) → HasOpenRange None s → unloaded_index s.work ≡ Some index → IsPrepared s → ⊥
+pub not_ordered : (index : ℕ) (s : CoreState) → HasOpenRange None s → unloaded_index s.work ≡ Some index → IsPrepared s → ⊥
 not_ordered index s scanned lowest prepared = at s.live.build scanned prepared where
   at : (o : Option BuildState) → OnBuild o (λ b. None ≡ open_range b) → IfSome o (λ b. (open_range b ≡ None) × (unloaded_index s.work ≡ None)) → ⊥
   at None is none = is
@@ -125,85 +122,57 @@ not_ordered index s scanned lowest prepared = at s.live.build scanned prepared w
 
 pub piece_of_copy :
     (range workers : ℕ) (old new : CoreState) → HasOpenRange (Some range) old → HasWorkers workers old → DoesCopy range (range % workers) old new
-    → (most : ℕ) → DoesPiece most old new
-piece_of_copy range workers old new open_at many copy most = record {
+    → (most : ℕ) (waited : Option (List ℕ)) → DoesPiece most waited old new
+piece_of_copy range workers old new open_at many copy most waited = record {
   works = copy.0;
-  due = copy_due most range workers old copy.0.events open_at many copy.1;
+  due = copy_due range workers old copy.0.events open_at many copy.1;
   some = some_copy range (range % workers) old copy.0.events copy.1;
+  leaves = λ prepared. absurd (not_copied range old open_at prepared);
   behind = λ prepared. absurd (not_copied range old open_at prepared);
 }
 
 pub stops_of_copy :
     (range workers : ℕ) (old new : CoreState) (fault : Fault) → HasOpenRange (Some range) old → HasWorkers workers old
-    → StopsCopy range (range % workers) old fault new → (most : ℕ) → StopsPiece most old fault new
-stops_of_copy range workers old new fault open_at many stops most =
-    (stops.0, copy_due most range workers old stops.0 open_at many stops.1, stops.2)
+    → StopsCopy range (range % workers) old fault new → (most : ℕ) (waited : Option (List ℕ)) → StopsPiece most waited old fault new
+stops_of_copy range workers old new fault open_at many stops most waited = record {
+  due = stops.0;
+  is_due = copy_due range workers old stops.0 open_at many stops.1;
+  stops = stops.2;
+  leaves = λ prepared. absurd (not_copied range old open_at prepared);
+}
 
 pub piece_of_ordering :
     (index : ℕ) (old new : CoreState) → HasOpenRange None old → unloaded_index old.work ≡ Some index → PutsInOrder index old new
-    → (most : ℕ) → DoesPiece most old new
-piece_of_ordering index old new scanned lowest ordering most = record {
+    → (most : ℕ) (waited : Option (List ℕ)) → DoesPiece most waited old new
+piece_of_ordering index old new scanned lowest ordering most waited = record {
   works = ordering.0;
-  due = ordering_due most index old ordering.0.events scanned lowest ordering.1;
+  due = ordering_due index old ordering.0.events scanned lowest ordering.1;
   some = some_ordering index old ordering.0.events ordering.1;
+  leaves = λ prepared. absurd (not_ordered index old scanned lowest prepared);
   behind = λ prepared. absurd (not_ordered index old scanned lowest prepared);
 }
 
 pub stops_of_ordering :
     (index : ℕ) (old new : CoreState) (fault : Fault) → HasOpenRange None old → unloaded_index old.work ≡ Some index → StopsOrdering index old fault new
-    → (most : ℕ) → StopsPiece most old fault new
-stops_of_ordering index old new fault scanned lowest stops most =
-    (stops.0, ordering_due most index old stops.0 scanned lowest stops.1, stops.2)
+    → (most : ℕ) (waited : Option (List ℕ)) → StopsPiece most waited old fault new
+stops_of_ordering index old new fault scanned lowest stops most waited = record {
+  due = stops.0;
+  is_due = ordering_due index old stops.0 scanned lowest stops.1;
+  stops = stops.2;
+  leaves = λ prepared. absurd (not_ordered index old scanned lowest prepared);
+}
 
--- The turns of the indexes, and the switch.
+-- Entries are moved on, up to one event that is refused.
 
-pub turns_more : (most count : ℕ) → turns most (count + 1) ≡ turns most count ++ Feed count most ∷ Apply count most ∷ []
-turns_more most count =
-    let next : suc count ≡ count + 1 = omega arith in
-    subst (λ (n : ℕ). turns most n ≡ turns most count ++ Feed count most ∷ Apply count most ∷ []) next refl
-
--- the turn of an index stands among those of all
-turns_split :
-    (most index count : ℕ) → index < count
-    → (rest : List Event) × (turns most count ≡ turns most index ++ Feed index most ∷ Apply index most ∷ rest)
-turns_split most index zero less = absurd (omega (arith, less))
-turns_split most index (suc count) less =
-    elim (cases_lt index count) [
-      | inl before ↦ further (turns_split most index count before)
-      | inr past ↦
-          let same : count ≡ index = omega (arith, past, less) in
-          ([], ap (λ (n : ℕ). turns most n ++ Feed n most ∷ Apply n most ∷ []) same)
-    ] where
-      last : List Event
-      last = Feed count most ∷ Apply count most ∷ []
-
-      further :
-          (rest : List Event) × (turns most count ≡ turns most index ++ Feed index most ∷ Apply index most ∷ rest)
-          → (rest : List Event) × (turns most (suc count) ≡ turns most index ++ Feed index most ∷ Apply index most ∷ rest)
-      further (rest, is) = (
-        rest ++ last,
-        ap (λ (events : List Event). events ++ last) is ∙ append_assoc (turns most index) (Feed index most ∷ Apply index most ∷ rest) last,
-      )
-
-pub stops_in_turns :
-    (most index count : ℕ) (old mid new : CoreState) (fault : Fault) → index < count → DoesAll (turns most index) old mid
-    → StopsWork (Feed index most ∷ Apply index most ∷ []) mid fault new → StopsWork (turns most count) old fault new
-stops_in_turns most index count old mid new fault less done stops =
-    let turn : List Event = Feed index most ∷ Apply index most ∷ [] in
-    let split = turns_split most index count less in
-    subst (λ (due : List Event). StopsWork due old fault new) (sym split.1)
-    (stops_after (turns most index) (turn ++ split.0) old mid new fault done (stops_before turn split.0 mid new fault stops))
-
-pub stops_of_turns :
-    (most : ℕ) (old new : CoreState) (fault : Fault) → IsPrepared old
-    → StopsWork (turns (most_of most) (index_count old.live.build)) old fault new → StopsPiece most old fault new
-stops_of_turns most old new fault prepared stops = at old.live.build refl where
-  at : (o : Option BuildState) → old.live.build ≡ o → StopsPiece most old fault new
-  at None none = absurd (
-      let order : turns (most_of most) (index_count None) ≡ stops.works.events ++ stops.event ∷ stops.rest =
-      ap (λ (o : Option BuildState). turns (most_of most) (index_count o)) (sym none) ∙ stops.order in
-      some_behind stops.works.events (stops.event ∷ stops.rest) (λ bad. cc) (sym order)
-      )
-  at (Some b) runs =
-      let due : List Event = turns (most_of most) (index_count old.live.build) in
-      (due, turns_due most old b due runs prepared (ap (λ (o : Option BuildState). turns (most_of most) (index_count o)) runs), stops)
+pub stops_in_moving :
+    (most : ℕ) (waited : Option (List ℕ)) (old new : CoreState) (fault : Fault) → IsPrepared old → HasLaws new
+    → StopsEach (most_of most) waited old fault new → StopsPiece most waited old fault new
+stops_in_moving most waited old new fault prepared laws stops = record {
+  due = stops.due;
+  is_due = at old.live.build refl;
+  stops = stops.stops;
+  leaves = λ _. leaves_no_fewer (most_of most) waited old new fault laws stops;
+} where
+  at : (o : Option BuildState) → old.live.build ≡ o → IsDue old stops.due
+  at None none = absurd (omega (arith, stops.some_indexes, ap index_count none))
+  at (Some b) runs = moves_due old b stops.due runs prepared stops.entries

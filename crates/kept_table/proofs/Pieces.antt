@@ -171,6 +171,11 @@ done_not_refused s Fence fault new of_work does = of_work
 done_not_refused s Switch fault new of_work does = of_work
 done_not_refused s Abandon fault new of_work does = of_work
 
+-- what isn't refused is done
+pub told_does : (s new : CoreState) (event : Event) (reply : Reply) → IsDone reply → Step s event reply new → Does s event reply new
+told_does s new event reply done (inl (fault, is, refused)) = absurd (done fault is)
+told_does s new event reply done (inr (none, does)) = does
+
 pub same_fault : (fault told : Fault) → Refused fault ≡ Refused told → told ≡ fault
 same_fault fault told is = cc
 

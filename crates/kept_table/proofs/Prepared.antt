@@ -14,12 +14,13 @@ use Rattle.build_events.specs.Ranges.{next_page, open_range}
 use Rattle.build_events.specs.Steps.{Run, Step}
 use Rattle.build_events.specs.Workers.{index_at, unloaded_index}
 use Rattle.build_events.specs.declared.event.Event.{Event}
-use Rattle.build_events.specs.declared.event.Event.TheVariants.{Feed, Apply}
+use Rattle.build_events.specs.declared.event.Event.TheVariants.{Begin, Insert, Update, Delete, Undo, Commit, Start, Scan, Digest, Seal, Load, Feed, Apply, Fence, Switch, Abandon}
 use Rattle.build_events.specs.declared.reply.Reply.{Reply}
+use Rattle.kept_table.specs.CatchingUp.{MovesEntries}
 use Rattle.kept_table.specs.Counts.{HasLaws}
-use Rattle.kept_table.specs.Pieces.{IsDone, IsPrepared}
+use Rattle.kept_table.specs.Pieces.{IsDone, IsPrepared, WorksOn}
 use Rattle.kept_table.specs.Progresses.{index_count}
-use Rattle.kept_table.specs.Shapes.{DoesAll, HasIndex, HasLoaded, HasOpenRange, HasPageIn, HasWorker, HasWorkers}
+use Rattle.kept_table.specs.Shapes.{HasIndex, HasLoaded, HasOpenRange, HasPageIn, HasWorker, HasWorkers}
 use Rattle.kept_table.proofs.Counts.{laws_of, on_build}
 use Rattle.kept_table.proofs.Shapes.{found}
 
@@ -134,18 +135,34 @@ prepared_applied s new index most reply done (inr (none, does)) prepared =
     (ap (λ (c : CoreState). unloaded_index c.work) at.2.1
     ∙ same_unloaded s.work.indexes index (record it { applied = it.applied + does.0 }) refl ∙ was.1)
 
-pub prepared_turn :
-    (index most : ℕ) (s new : CoreState) → DoesAll (Feed index most ∷ Apply index most ∷ []) s new → IsPrepared s → IsPrepared new
-prepared_turn index most s new turn prepared =
-    at turn.0.replies turn.0.done
-    (subst (λ (events : List Event). Run (λ s event. Unit {0}) s events turn.0.replies new) turn.1 turn.0.run) where
-      at :
-          (replies : List Reply) → All IsDone replies → Run (λ s event. Unit {0}) s (Feed index most ∷ Apply index most ∷ []) replies new → IsPrepared new
-      at [] done run = absurd run
-      at (fed ∷ []) done run = absurd run.3
-      at (fed ∷ applied ∷ []) done run =
-          let behind = All-tail IsDone fed (applied ∷ []) done in
-          subst IsPrepared (sym run.3.3)
-          (prepared_applied run.0 run.3.0 index most applied (All-head IsDone applied [] behind) run.3.1
-          (prepared_fed s run.0 index most fed (All-head IsDone fed (applied ∷ []) done) run.1 prepared))
-      at (fed ∷ applied ∷ more ∷ rest) done run = absurd run.3.3
+prepared_step :
+    (s new : CoreState) (event : Event) (reply : Reply) → MovesEntries event → IsDone reply → Step s event reply new → IsPrepared s → IsPrepared new
+prepared_step s new Begin reply moves done step prepared = absurd moves
+prepared_step s new (Insert txn row) reply moves done step prepared = absurd moves
+prepared_step s new (Update txn rid row) reply moves done step prepared = absurd moves
+prepared_step s new (Delete txn rid) reply moves done step prepared = absurd moves
+prepared_step s new (Undo txn) reply moves done step prepared = absurd moves
+prepared_step s new (Commit txn) reply moves done step prepared = absurd moves
+prepared_step s new (Start plan) reply moves done step prepared = absurd moves
+prepared_step s new (Scan range worker) reply moves done step prepared = absurd moves
+prepared_step s new (Digest worker) reply moves done step prepared = absurd moves
+prepared_step s new (Seal worker) reply moves done step prepared = absurd moves
+prepared_step s new (Load index) reply moves done step prepared = absurd moves
+prepared_step s new (Feed index most) reply moves done step prepared = prepared_fed s new index most reply done step prepared
+prepared_step s new (Apply index most) reply moves done step prepared = prepared_applied s new index most reply done step prepared
+prepared_step s new Fence reply moves done step prepared = absurd moves
+prepared_step s new Switch reply moves done step prepared = absurd moves
+prepared_step s new Abandon reply moves done step prepared = absurd moves
+
+run_prepared :
+    (s new : CoreState) (events : List Event) (replies : List Reply) → All MovesEntries events → All IsDone replies
+    → Run (λ s event. Unit {0}) s events replies new → IsPrepared s → IsPrepared new
+run_prepared s new [] [] moves done run prepared = subst IsPrepared (sym run) prepared
+run_prepared s new [] (reply ∷ replies) moves done run prepared = absurd run
+run_prepared s new (event ∷ events) [] moves done run prepared = absurd run
+run_prepared s new (event ∷ events) (reply ∷ replies) moves done run prepared =
+    run_prepared run.0 new events replies (All-tail MovesEntries event events moves) (All-tail IsDone reply replies done) run.3
+    (prepared_step s run.0 event reply (All-head MovesEntries event events moves) (All-head IsDone reply replies done) run.1 prepared)
+
+pub prepared_moved : (s new : CoreState) (works : WorksOn s new) → All MovesEntries works.events → IsPrepared s → IsPrepared new
+prepared_moved s new works moves prepared = run_prepared s new works.events works.replies moves works.done works.run prepared

@@ -25,9 +25,10 @@ use Rattle.build_events.specs.declared.reply.Reply.TheVariants.{Refused}
 use Rattle.leased_core.specs.Leasing.{WantedLeasedPage}
 use Rattle.kept_table.specs.Counts.{HasLaws}
 use Rattle.kept_table.specs.Pieces.{IsDone, IsOfWork, StopsWork, WorksOn}
+use Rattle.kept_table.specs.Progresses.{index_count}
 use Rattle.kept_table.specs.Shapes.{HasIndex, HasLoaded, HasOpenRange, HasWorker, IsHeldUp, IsPutOff, IsThere, IsUnsealed, ScansIfRoom}
+use Rattle.kept_table.proofs.Causes.{first_or, if_told, spoiled_want}
 use Rattle.kept_table.proofs.Counts.{laws_of, on_build}
-use Rattle.kept_table.proofs.Deciding.{first_or, if_told, spoiled_want}
 use Rattle.kept_table.proofs.Pieces.{done_not_refused, same_fault, stops_once, work_want}
 
 -- What events of work keep.
@@ -174,6 +175,18 @@ keeps_worker_scan s new range worker (inr (full, same)) has = subst (HasWorker w
 pub keeps_loaded : (s new : CoreState) (index : ℕ) → WorksOn s new → HasLoaded index s → HasLoaded index new
 keeps_loaded s new index works has =
     run_keeps (HasLoaded index) (λ old after on. loaded_stays old after index on) s new works.events works.replies works.of_work works.done works.run has
+
+pub keeps_count : (s new : CoreState) → WorksOn s new → index_count new.live.build ≡ index_count s.live.build
+keeps_count s new works =
+    run_keeps (λ (c : CoreState). index_count c.live.build ≡ index_count s.live.build)
+    (λ old after on was. ap index_count on.ran ∙ ap length on.specs ∙ sym (ap index_count on.runs) ∙ was) s new works.events works.replies works.of_work
+    works.done works.run refl
+
+-- where no build runs none comes
+pub none_left : (s new : CoreState) → WorksOn s new → s.live.build ≡ None → new.live.build ≡ None
+none_left s new works none =
+    run_keeps (λ (c : CoreState). c.live.build ≡ None) (λ old after on is. absurd (let bad : None ≡ Some on.before = sym is ∙ on.runs in cc)) s new
+    works.events works.replies works.of_work works.done works.run none
 
 -- Why an event of work is refused.
 

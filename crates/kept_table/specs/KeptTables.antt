@@ -1,5 +1,5 @@
--- A table that is kept without a name, with what the newest switch decided.
-use Rattle.std.specs.Prelude.{List, [], Option, Some, None}
+-- A table that is kept without a name, with what the newest switch decided and how many entries wait.
+use Rattle.std.specs.Prelude.{ℕ, List, [], Option, Some, None}
 use Rattle.keybytes.specs.Keys.{KeySpecValue}
 use Rattle.heap_log.specs.declared.outcome.Outcome.{Outcome}
 use Rattle.heap_table.specs.HeapState.{HeapState, empty_heap}
@@ -12,10 +12,12 @@ pub record DecidedValue : Type 0 where
   pub specs : List KeySpecValue
   pub verdicts : List Outcome
 
--- a table with its builds, and what the newest switch decided, if one did
+-- a table with its builds; what the newest switch decided, if one did; and how many entries of each index waited behind the last piece that caught up
+-- of the build that runs, if one did
 pub record KeptValue : Type 0 where
   pub core : CoreState
   pub decided : Option DecidedValue
+  pub waited : Option (List ℕ)
 
 -- a table over these rows, with no index and no build, and no spools beside it
 abbrev pub new_table : HeapState → CoreState

@@ -1,8 +1,10 @@
+pub mod CatchingUp
 pub mod Counts
 pub mod Decisions
 pub mod KeptTables
 pub mod Lookups
 pub mod Pieces
 pub mod Progresses
+pub mod Rounds
 pub mod Shapes
 pub mod Starts

@@ -1,38 +1,45 @@
 //! A build that is done a piece at a time.
-ghost use Rattle.std.specs.Prelude.{◌≡◌, ◌<◌, ℕ, true, false, [], ◌∷◌, None, IfOk, IfErr, IfSome, IsSomeAnd, OnOk, OnErr};
-ghost use Rattle.kept_table.specs.Pieces.{DoesPiece, FailsToAdvance, IsOfWork, IsPrepared, StopsPiece, StopsWork, WorksToTheEnd, turns};
-ghost use Rattle.kept_table.specs.Progresses.{index_count};
-ghost use Rattle.kept_table.specs.Shapes.{DoesAll, DoesCopy, HasIndex, HasLoaded, HasOpenRange, HasPageIn, HasWorker, HasWorkers, IsHeldUp, IsPutOff, IsThere};
+ghost use Rattle.std.specs.Prelude.{◌≡◌, ◌<◌, ℕ, true, false, List, [], ◌∷◌, Option, None, IfOk, IfErr, IfSome, IsSomeAnd, OnOk, OnErr};
+ghost use Rattle.build_events.specs.Steps.{Does, Step};
+ghost use Rattle.kept_table.specs.Pieces.{DoesPiece, FailsToAdvance, IsOfWork, IsPrepared, NotesWaits, StopsPiece, StopsWork, WorksToTheEnd};
+ghost use Rattle.kept_table.specs.Shapes.{DoesAll, DoesCopy, HasIndex, HasOpenRange, HasPageIn, HasWorker, HasWorkers, IsHeldUp, IsPutOff, IsThere};
 ghost use Rattle.kept_table.specs.Shapes.{IsUnsealed, PutsInOrder, ScansIfRoom, StopsCopy, StopsOrdering};
 
 use crate::Kept;
 use crate::builds::decide;
+use crate::catching_up::catch_up;
 use crate::counted::Counted;
 use crate::decided::Decided;
 use crate::kept::taken;
-use crate::progress::indexes_of;
 use crate::unnamed_counted::UnnamedCounted;
+use crate::waits::Waits;
 use builder_core::{Event, Reply, TableRings};
 use keybytes::Fault;
 use std::marker::Brand;
 
-/// The most entries that a ring of a side-file has room for.
-const RING_ENTRIES: usize = 256;
-
 impl Kept {
     /// Does the next piece of the build that runs, and answers whether it was the last, a switch that decided: copies a page and makes the pairs of one
-    /// copy, or lets a worker close its runs, or puts the pairs of an index in order, or applies at most so many entries of each index, from 1 to 256, and
-    /// tries the switch, which keeps what it decides of each index. [`Fault::NoBuild`] where none runs. After [`Fault::Busy`] it can be called again, and
-    /// after [`Fault::Memory`] of a copy, of entries or of the switch; after the fault of a spoiled build, and after [`Fault::NoPage`] and
-    /// [`Fault::Memory`] where these spoil it, the build can only be given up.
+    /// copy, or lets a worker close its runs, or puts the pairs of an index in order, or catches up: applies of each index as many entries as were
+    /// appended since the last piece that did, and `most` more, at least one (`most` where it is the first), and tries the switch, which keeps what it
+    /// decides of each index. So what waits falls by `most` with each such piece, however much is written between two of them. [`Fault::NoBuild`] where no
+    /// build runs. After [`Fault::Busy`] it can be called again, and after [`Fault::Memory`] of a copy, of entries or of the switch; after the fault of a
+    /// spoiled build, and after [`Fault::NoPage`] and [`Fault::Memory`] where these spoil it, the build can only be given up.
     pub fn advance(&mut self, most: usize) -> Result<bool, Fault>
         ensures ready { IfOk result (λ ready. ready ≡ true
-            → IsSomeAnd self.new.decided (λ decided. WorksToTheEnd most self.old.core decided self.new.core)) }
-        ensures goes_on { IfOk result (λ ready. ready ≡ false → DoesPiece most self.old.core self.new.core × (self.new.decided ≡ self.old.decided)) }
-        ensures refused { IfErr result (λ fault. FailsToAdvance most self.old.core fault self.new.core) }
+            → IsSomeAnd self.new.decided (λ decided. WorksToTheEnd most self.old.waited self.old.core decided self.new.core)) }
+        ensures forgotten { IfOk result (λ ready. ready ≡ true → self.new.waited ≡ None) }
+        ensures goes_on { IfOk result (λ ready. ready ≡ false
+            → DoesPiece most self.old.waited self.old.core self.new.core × (self.new.decided ≡ self.old.decided)) }
+        ensures waits { IfOk result (λ ready. ready ≡ false → NotesWaits self.old.core self.old.waited self.new.core self.new.waited) }
+        ensures refused { IfErr result (λ fault. FailsToAdvance most self.old.waited self.old.core fault self.new.core self.new.waited) }
         ensures kept { OnErr result (self.new.decided ≡ self.old.decided) }
     {
-        let (table, ready) = advanced::<Brand>(taken(&mut self.table), &mut self.decided, most);
+        let (table, ready) = advanced::<Brand>(
+            taken(&mut self.table),
+            &mut self.decided,
+            &mut self.waited,
+            most,
+        );
         self.table = Some(table);
         ready
     }
@@ -42,17 +49,20 @@ impl Kept {
 fn advanced<T: TableRings>(
     table: UnnamedCounted,
     decided: &mut Option<Decided>,
+    waited: &mut Option<Waits>,
     most: usize,
 ) -> (UnnamedCounted, Result<bool, Fault>)
     requires rings { table.pages ≡ T.pages }
     requires sides { table.sides ≡ T.sides }
-    ensures ready { IfOk result.1 (λ ready. ready ≡ true → IsSomeAnd decided.new (λ told. WorksToTheEnd most table.core told result.0.core)) }
-    ensures goes_on { IfOk result.1 (λ ready. ready ≡ false → DoesPiece most table.core result.0.core × (decided.new ≡ decided.old)) }
-    ensures refused { IfErr result.1 (λ fault. FailsToAdvance most table.core fault result.0.core) }
+    ensures ready { IfOk result.1 (λ ready. ready ≡ true → IsSomeAnd decided.new (λ told. WorksToTheEnd most waited.old table.core told result.0.core)) }
+    ensures forgotten { IfOk result.1 (λ ready. ready ≡ true → waited.new ≡ None) }
+    ensures goes_on { IfOk result.1 (λ ready. ready ≡ false → DoesPiece most waited.old table.core result.0.core × (decided.new ≡ decided.old)) }
+    ensures waits { IfOk result.1 (λ ready. ready ≡ false → NotesWaits table.core waited.old result.0.core waited.new) }
+    ensures refused { IfErr result.1 (λ fault. FailsToAdvance most waited.old table.core fault result.0.core waited.new) }
     ensures kept { OnErr result.1 (decided.new ≡ decided.old) }
 {
     let mut named = table.open::<T>();
-    let ready = advance(&mut named, decided, most);
+    let ready = advance(&mut named, decided, waited, most);
     (named.unname(), ready)
 }
 
@@ -60,16 +70,19 @@ fn advanced<T: TableRings>(
 fn advance<T: TableRings>(
     counted: &mut Counted<T>,
     decided: &mut Option<Decided>,
+    waited: &mut Option<Waits>,
     most: usize,
 ) -> Result<bool, Fault>
-    ensures ready { IfOk result (λ ready. ready ≡ true → IsSomeAnd decided.new (λ told. WorksToTheEnd most counted.old told counted.new)) }
-    ensures goes_on { IfOk result (λ ready. ready ≡ false → DoesPiece most counted.old counted.new × (decided.new ≡ decided.old)) }
-    ensures refused { IfErr result (λ fault. FailsToAdvance most counted.old fault counted.new) }
+    ensures ready { IfOk result (λ ready. ready ≡ true → IsSomeAnd decided.new (λ told. WorksToTheEnd most waited.old counted.old told counted.new)) }
+    ensures forgotten { IfOk result (λ ready. ready ≡ true → waited.new ≡ None) }
+    ensures goes_on { IfOk result (λ ready. ready ≡ false → DoesPiece most waited.old counted.old counted.new × (decided.new ≡ decided.old)) }
+    ensures waits { IfOk result (λ ready. ready ≡ false → NotesWaits counted.old waited.old counted.new waited.new) }
+    ensures refused { IfErr result (λ fault. FailsToAdvance most waited.old counted.old fault counted.new waited.new) }
     ensures kept { OnErr result (decided.new ≡ decided.old) }
 {
     match prepare(counted) {
         Ok(true) => Ok(false),
-        Ok(false) => finish(counted, decided, most),
+        Ok(false) => finish(counted, decided, waited, most),
         Err(fault) => Err(fault),
     }
 }
@@ -77,9 +90,10 @@ fn advance<T: TableRings>(
 /// Copies a page, or puts the pairs of an index in order or closes the runs of a worker, and answers whether there was something of that to do;
 /// there isn't where no build runs.
 fn prepare<T: TableRings>(counted: &mut Counted<T>) -> Result<bool, Fault>
-    ensures done { IfOk result (λ more. more ≡ true → (most : ℕ) → DoesPiece most counted.old counted.new) }
+    ensures done { IfOk result (λ more. more ≡ true → (most : ℕ) → (waited : Option (List ℕ)) → DoesPiece most waited counted.old counted.new) }
+    ensures due { IfOk result (λ more. more ≡ true → IsPrepared counted.old → ⊥) }
     ensures prepared { IfOk result (λ more. more ≡ false → IsPrepared counted.old × (counted.new ≡ counted.old)) }
-    ensures refused { IfErr result (λ fault. (most : ℕ) → StopsPiece most counted.old fault counted.new) }
+    ensures refused { IfErr result (λ fault. (most : ℕ) → (waited : Option (List ℕ)) → StopsPiece most waited counted.old fault counted.new) }
 {
     counted.laws();
     let Some((workers, range)) = build_counts(counted) else {
@@ -108,27 +122,35 @@ fn build_counts<T: TableRings>(counted: &Counted<T>) -> Option<(usize, Option<us
     }
 }
 
-/// Applies entries of each index, tries the switch, and answers whether that decided. A switch that is behind, since more entries are left than it
-/// applies itself, is tried again with the next piece. So a build needn't wait until writers leave nothing to apply.
+/// Applies entries of each index, notes how many wait then, tries the switch, and answers whether that decided. A switch that is behind, since more
+/// entries are left than it applies itself, is tried again with the next piece. So a build needn't wait until writers leave nothing to apply.
 fn finish<T: TableRings>(
     counted: &mut Counted<T>,
     decided: &mut Option<Decided>,
+    waited: &mut Option<Waits>,
     most: usize,
 ) -> Result<bool, Fault>
     requires { IsPrepared counted.old }
-    ensures ready { IfOk result (λ ready. ready ≡ true → IsSomeAnd decided.new (λ told. WorksToTheEnd most counted.old told counted.new)) }
-    ensures goes_on { IfOk result (λ ready. ready ≡ false → DoesPiece most counted.old counted.new × (decided.new ≡ decided.old)) }
-    ensures refused { IfErr result (λ fault. FailsToAdvance most counted.old fault counted.new) }
+    ensures ready { IfOk result (λ ready. ready ≡ true → IsSomeAnd decided.new (λ told. WorksToTheEnd most waited.old counted.old told counted.new)) }
+    ensures forgotten { IfOk result (λ ready. ready ≡ true → waited.new ≡ None) }
+    ensures goes_on { IfOk result (λ ready. ready ≡ false → DoesPiece most waited.old counted.old counted.new × (decided.new ≡ decided.old)) }
+    ensures waits { IfOk result (λ ready. ready ≡ false → NotesWaits counted.old waited.old counted.new waited.new) }
+    ensures refused { IfErr result (λ fault. FailsToAdvance most waited.old counted.old fault counted.new waited.new) }
     ensures kept { OnErr result (decided.new ≡ decided.old) }
 {
     counted.laws();
-    match catch_up(counted, most.clamp(1, RING_ENTRIES)) {
+    let caught_up = catch_up(counted, waited, most.max(1));
+    counted.laws();
+    match caught_up {
         Ok(()) => (),
         Err(fault) => return Err(fault),
     }
-    counted.laws();
+    *waited = Some(Waits::of_core(counted.core()));
     match decide(counted, decided) {
-        Ok(_number) => Ok(true),
+        Ok(_number) => {
+            *waited = None;
+            Ok(true)
+        }
         Err(fault) => match fault {
             Fault::Behind(_left) => Ok(false),
             other => Err(other),
@@ -223,43 +245,15 @@ fn seal<T: TableRings>(counted: &mut Counted<T>, worker: usize) -> Result<(), Fa
     }
 }
 
-/// Applies the next entries of each index of the build that runs, at most so many of each. Each has its turn, so that none is left behind while writers
-/// go on.
-fn catch_up<T: TableRings>(counted: &mut Counted<T>, most: usize) -> Result<(), Fault>
-    requires { IsPrepared counted.old }
-    ensures done { OnOk result (DoesAll (turns most (index_count counted.old.live.build)) counted.old counted.new) }
-    ensures prepared { OnOk result (IsPrepared counted.new) }
-    ensures refused { IfErr result (λ fault. StopsWork (turns most (index_count counted.old.live.build)) counted.old fault counted.new) }
-{
-    counted.laws();
-    for index in 0..indexes_of(counted.core()) {
-        catch_up_one(counted, index, most)?;
-    }
-    Ok(())
-}
-
-/// Applies the next entries of the index, at most so many.
-fn catch_up_one<T: TableRings>(
-    counted: &mut Counted<T>,
-    index: usize,
-    most: usize,
-) -> Result<(), Fault>
-    requires { HasLoaded index counted.old }
-    ensures done { OnOk result (DoesAll (Event.Feed index most ∷ Event.Apply index most ∷ []) counted.old counted.new) }
-    ensures refused { IfErr result (λ fault. StopsWork (Event.Feed index most ∷ Event.Apply index most ∷ []) counted.old fault counted.new) }
-{
-    let _fed = work(counted, Event::Feed { index, most })?;
-    let _applied = work(counted, Event::Apply { index, most })?;
-    Ok(())
-}
-
 /// Does one event of the build's work that waits for no other one.
-fn work<T: TableRings>(counted: &mut Counted<T>, event: Event) -> Result<Reply, Fault>
+pub(crate) fn work<T: TableRings>(counted: &mut Counted<T>, event: Event) -> Result<Reply, Fault>
     requires work { IsOfWork event }
     requires there { IsThere event counted.old }
     requires waits { (fault : Fault) → IsPutOff event fault → ⊥ }
     ensures done { OnOk result (DoesAll (event ∷ []) counted.old counted.new) }
+    ensures told { IfOk result (λ reply. Does counted.old event reply counted.new) }
     ensures refused { IfErr result (λ fault. StopsWork (event ∷ []) counted.old fault counted.new) }
+    ensures step { IfErr result (λ fault. Step counted.old event (Reply.Refused fault) counted.new) }
 {
     attempt(counted, event)
 }
@@ -269,6 +263,7 @@ fn attempt<T: TableRings>(counted: &mut Counted<T>, event: Event) -> Result<Repl
     requires work { IsOfWork event }
     requires there { IsThere event counted.old }
     ensures done { OnOk result (DoesAll (event ∷ []) counted.old counted.new) }
+    ensures told { IfOk result (λ reply. Does counted.old event reply counted.new) }
     ensures held { IfErr result (λ fault. IsHeldUp counted.old event fault counted.new) }
 {
     counted.laws();

@@ -10,6 +10,7 @@ use crate::counted::Counted;
 use crate::decided::Decided;
 use crate::kept::taken;
 use crate::unnamed_counted::UnnamedCounted;
+use crate::waits::forget_if;
 use builder_core::{Event, INDEXES_MAX, Plan, Reply, TableRings, WORKERS_MAX};
 use keybytes::{Fault, KeySpec, copied_specs};
 use run_spool::SpoolChoice;
@@ -28,9 +29,11 @@ impl Kept {
         ensures refused { IfErr result (RefusesStart quota plan self.old.core) }
         ensures unchanged { OnErr result (self.new ≡ self.old) }
         ensures decided { self.new.decided ≡ self.old.decided }
+        ensures waited { OnOk result (self.new.waited ≡ None) }
     {
         let (table, started) = started::<Brand>(taken(&mut self.table), choice, quota, plan);
         self.table = Some(table);
+        forget_if(&mut self.waited, started.is_ok());
         started
     }
 
@@ -40,9 +43,12 @@ impl Kept {
         ensures decided { IfOk result (λ number. IsSomeAnd self.new.decided (λ decided. Decides self.old.core number decided self.new.core)) }
         ensures refused { IfErr result (λ fault. FailsToDecide self.old.core fault self.new.core) }
         ensures kept { OnErr result (self.new.decided ≡ self.old.decided) }
+        ensures forgotten { OnOk result (self.new.waited ≡ None) }
+        ensures waited { OnErr result (self.new.waited ≡ self.old.waited) }
     {
         let (table, number) = switched::<Brand>(taken(&mut self.table), &mut self.decided);
         self.table = Some(table);
+        forget_if(&mut self.waited, number.is_ok());
         number
     }
 
@@ -51,9 +57,12 @@ impl Kept {
         ensures abandoned { OnOk result (EndsBuild Event.Abandon Reply.Abandoned self.old.core self.new.core) }
         ensures refused { IfErr result (λ fault. Step self.old.core Event.Abandon (Reply.Refused fault) self.new.core) }
         ensures decided { self.new.decided ≡ self.old.decided }
+        ensures forgotten { OnOk result (self.new.waited ≡ None) }
+        ensures waited { OnErr result (self.new.waited ≡ self.old.waited) }
     {
         let (table, abandoned) = abandoned::<Brand>(taken(&mut self.table));
         self.table = Some(table);
+        forget_if(&mut self.waited, abandoned.is_ok());
         abandoned
     }
 }

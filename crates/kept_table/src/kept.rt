@@ -6,19 +6,23 @@ ghost use Rattle.kept_table.specs.KeptTables.{new_table};
 use crate::counted::Counted;
 use crate::decided::Decided;
 use crate::unnamed_counted::UnnamedCounted;
+use crate::waits::Waits;
 use builder_core::{Event, Parts, Reply, TableRings};
 use heap_table::Heap;
 use keybytes::Fault;
 use std::alloc::Global;
 use std::marker::{Brand, Model};
 
-/// A table with its builds, without a name, and what its newest switch decided. Contracts see the core, and that.
+/// A table with its builds, without a name, what its newest switch decided, and how many entries waited behind the last piece that caught up of the
+/// build that runs. Contracts see the core, and these.
 ///
 /// To let it go lets the table go, and with it the pool and the spools of a build that runs: [`Kept::close`] counts their pages.
 pub struct Kept {
     /// It is there but for the time that a call works on it.
     pub(crate) table: Option<UnnamedCounted>,
     pub(crate) decided: Option<Decided>,
+    /// Since that piece. Events of their own may have fed and applied some of these entries.
+    pub(crate) waited: Option<Waits>,
 }
 
 impl Drop for Kept {
@@ -26,6 +30,7 @@ impl Drop for Kept {
         let Kept {
             table: _,
             decided: _,
+            waited: _,
         } = self;
     }
 }
@@ -36,7 +41,7 @@ impl Model for Kept {
 
     ghost Value = { KeptValue };
 
-    ghost view = { λ kept. record { core = table_in kept.table; decided = kept.decided } };
+    ghost view = { λ kept. record { core = table_in kept.table; decided = kept.decided; waited = kept.waited } };
 
     ghost invariant = { λ kept. is_some kept.table ≡ true };
 }
@@ -44,7 +49,7 @@ impl Model for Kept {
 impl Kept {
     /// A table over these rows, with no index and no build. Where memory runs out the rows are handed back.
     pub fn new(alloc: Global, heap: Heap) -> Result<Kept, (Heap, Fault)>
-        ensures ok { IfOk result (λ kept. kept ≡ record { core = new_table heap.state; decided = None }) }
+        ensures ok { IfOk result (λ kept. kept ≡ record { core = new_table heap.state; decided = None; waited = None }) }
         ensures handed_back { IfErr result (λ back. back.0 ≡ heap) }
         ensures memory { IfErr result (λ back. back.1 ≡ Fault.Memory) }
     {
@@ -52,6 +57,7 @@ impl Kept {
             Ok(parts) => Ok(Kept {
                 table: Some(opened::<Brand>(alloc, parts)),
                 decided: None,
+                waited: None,
             }),
             Err(back) => Err(back),
         }
@@ -61,7 +67,11 @@ impl Kept {
     pub fn close(self) -> usize
         ensures { result ≡ 0 }
     {
-        let Kept { table, decided: _ } = self;
+        let Kept {
+            table,
+            decided: _,
+            waited: _,
+        } = self;
         match table {
             Some(table) => closed::<Brand>(table),
             None => 0,
@@ -74,6 +84,7 @@ impl Kept {
         ensures step { Step self.old.core event result self.new.core }
         ensures full { HasPageCause WantedLeasedPage self.old.core event result }
         ensures decided { self.new.decided ≡ self.old.decided }
+        ensures waited { self.new.waited ≡ self.old.waited }
     {
         let (table, reply) = stepped::<Brand>(taken(&mut self.table), event);
         self.table = Some(table);

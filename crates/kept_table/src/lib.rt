@@ -8,6 +8,7 @@
 
 mod advancing;
 mod builds;
+mod catching_up;
 mod counted;
 mod decided;
 mod kept;
@@ -16,6 +17,7 @@ mod page_count;
 mod progress;
 mod reads;
 mod unnamed_counted;
+mod waits;
 
 pub use kept::Kept;
 pub use progress::Progress;

@@ -104,7 +104,7 @@ fn waiting_of<T: TableRings>(core: &Core<SpoolOfKind, T>, indexes: usize) -> usi
 }
 
 /// How many entries of an index's side-file were not fed.
-fn left_of<T: TableRings>(core: &Core<SpoolOfKind, T>, index: usize) -> usize
+pub(crate) fn left_of<T: TableRings>(core: &Core<SpoolOfKind, T>, index: usize) -> usize
     ensures { result ≡ unfed_at core.now.live.heap.log core.now.live.build index }
 {
     match core.side(index) {

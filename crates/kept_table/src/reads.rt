@@ -25,6 +25,7 @@ impl Kept {
         ensures unchanged { OnErr result (self.new.core ≡ self.old.core) }
         ensures refused { IfErr result (RefusedFor (row_missing (live_at self.old.core.live.heap.log rid))) }
         ensures decided { self.new.decided ≡ self.old.decided }
+        ensures waited { self.new.waited ≡ self.old.waited }
     {
         let (table, row) = row_at::<Brand>(taken(&mut self.table), rid);
         self.table = Some(table);

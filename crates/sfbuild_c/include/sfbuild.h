@@ -9,9 +9,9 @@
  * Proved, for whatever list of calls: no call reads or writes beyond what is described here, each call returns and does
  * and answers what its definition says, and an index that becomes ready has one pair, key and address, of each row that
  * stands, and no other; and a table may go from one thread to another between two calls. Only tested is that the pieces
- * of sfbuild_step bring a build to its end where writers pause, that MEMORY isn't answered where there is memory, and
- * that sfbuild_close frees all. Not proved is what stands in C: the helpers in this file, and that its declarations fit
- * the library. (docs/C.md, docs/PROMISES.md.)
+ * of sfbuild_step bring a build to its end, that MEMORY isn't answered where there is memory, and that sfbuild_close
+ * frees all. Not proved is what stands in C: the helpers in this file, and that its declarations fit the library.
+ * (docs/C.md, docs/PROMISES.md.)
  * What the program has to keep, since nothing can check it:
  *
  * - Pointers aren't null, point to what they are said to, and not into one another. Lengths are true. A pointer to
@@ -166,13 +166,14 @@ uint8_t sfbuild_start(sfbuild *table, const uint8_t *indexes, size_t length, siz
                       uint32_t *pages);
 
 /* Does the next piece of the build: copies a page and takes the keys of it, or seals a worker, or puts the pairs of
- * an index in order, or applies at most `most` changes of each index (1 to 256, or the nearest of these) and, where no
- * more than 1,024 of all indexes together are left then, applies these too and switches. `*ready` tells whether it
- * switched: then the build has ended, and sfbuild_verdict tells of each index. It needn't end where writers make as
- * many changes between two pieces as one applies: docs/C.md, "A build". NO_BUILD; NO_PAGE; BUSY. What a refused piece
- * did before stays done. After BUSY it can be asked again: the build waits for transactions to end. Where MEMORY or
- * NO_PAGE spoiled the build, each piece answers so from then on: give it up by sfbuild_abandon. (MEMORY of a copy, of
- * changes or of a switch spoils nothing.) */
+ * an index in order, or catches up: applies of each index as many changes as were written since the last piece that
+ * did, and `most` more (0 counts as 1), or all; the first such piece applies `most`. Where no more than 1,024 of all
+ * indexes together are left then, it applies these too and switches. So `most` fewer wait of each index behind each
+ * such piece, however much is written between two of them, and its time goes with what was. `*ready` tells whether it
+ * switched: then the build has ended, and sfbuild_verdict tells of each index. NO_BUILD; NO_PAGE; BUSY. What a refused
+ * piece did before stays done. After BUSY it can be asked again: the build waits for transactions to end. Where MEMORY
+ * or NO_PAGE spoiled the build, each piece answers so from then on: give it up by sfbuild_abandon. (MEMORY of a copy,
+ * of changes or of a switch spoils nothing.) */
 uint8_t sfbuild_step(sfbuild *table, size_t most, bool *ready);
 
 /* The pieces one by one, for a program that wants them in an order of its own. A digest, a seal or a load that

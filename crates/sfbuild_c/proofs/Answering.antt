@@ -8,7 +8,7 @@ use Rattle.build_events.specs.declared.reply.Reply.TheVariants.{Refused}
 use Rattle.build_events.specs.CoreState.{CoreState}
 use Rattle.kept_table.specs.Decisions.{Decides}
 use Rattle.kept_table.specs.KeptTables.{DecidedValue, KeptValue}
-use Rattle.kept_table.specs.Pieces.{DoesPiece, WorksToTheEnd}
+use Rattle.kept_table.specs.Pieces.{DoesPiece, NotesWaits, WorksToTheEnd}
 use Rattle.sfbuild_c.specs.Building.{Advances}
 use Rattle.sfbuild_c.specs.Answers.{Answered, KeepsCause, OnTable, Steps}
 use Rattle.sfbuild_c.specs.Causes.{cause_of}
@@ -39,7 +39,9 @@ some_decides (Some decided) number old new decides = (number, decides)
 -- a piece of a build is the last, or one before it
 pub advances :
     (most : ℕ) (switched : Bool) (before after : KeptValue)
-    → (switched ≡ true → IsSomeAnd after.decided (λ decided. WorksToTheEnd most before.core decided after.core))
-    → (switched ≡ false → DoesPiece most before.core after.core × (after.decided ≡ before.decided)) → Advances most switched before after
-advances most true before after ends goes_on = ends refl
-advances most false before after ends goes_on = goes_on refl
+    → (switched ≡ true → IsSomeAnd after.decided (λ decided. WorksToTheEnd most before.waited before.core decided after.core))
+    → (switched ≡ true → after.waited ≡ None)
+    → (switched ≡ false → DoesPiece most before.waited before.core after.core × (after.decided ≡ before.decided))
+    → (switched ≡ false → NotesWaits before.core before.waited after.core after.waited) → Advances most switched before after
+advances most true before after ends forgotten goes_on waits = (ends refl, forgotten refl)
+advances most false before after ends forgotten goes_on waits = ((goes_on refl).0, (goes_on refl).1, waits refl)

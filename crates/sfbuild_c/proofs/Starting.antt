@@ -17,9 +17,10 @@ pub starts :
     (bytes : List ℕ) (workers ranges quota : ℕ) (told : Result ℕ Fault) (plan : Plan) (kinds : List Kind) (mid before after : KeptValue)
     → mid ≡ before → kinds ≡ before.core.live.heap.schema → IsAskedFor kinds bytes workers ranges plan
     → IfOk told (λ pages. StartsOver quota plan mid.core (Started pages) after.core) → OnOk told (start_limits_refusal quota plan mid.core ≡ None)
-    → after.decided ≡ mid.decided → IfOk told (λ pages. StartsBuild bytes workers ranges quota pages before after)
-starts bytes workers ranges quota (Ok pages) plan kinds mid before after same of asked started accepted decided = (
+    → after.decided ≡ mid.decided → OnOk told (after.waited ≡ None) → IfOk told (λ pages. StartsBuild bytes workers ranges quota pages before after)
+starts bytes workers ranges quota (Ok pages) plan kinds mid before after same of asked started accepted decided waited = (
   subst (λ (kept : KeptValue). after.decided ≡ kept.decided) same decided,
+  waited,
   (
     plan,
     subst (λ (columns : List Kind). IsAskedFor columns bytes workers ranges plan) of asked,
@@ -27,7 +28,7 @@ starts bytes workers ranges quota (Ok pages) plan kinds mid before after same of
     subst (λ (kept : KeptValue). StartsOver quota plan kept.core (Started pages) after.core) same started,
   ),
 )
-starts bytes workers ranges quota (Err fault) plan kinds mid before after same of asked started accepted decided = tt
+starts bytes workers ranges quota (Err fault) plan kinds mid before after same of asked started accepted decided waited = tt
 
 pub refuses :
     (bytes : List ℕ) (workers ranges quota : ℕ) (told : Result ℕ Fault) (plan : Plan) (kinds : List Kind) (mid before after : KeptValue)

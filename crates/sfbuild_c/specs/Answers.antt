@@ -52,10 +52,11 @@ abbrev pub UnlessTold : ℕ → Type 0 → Type 0
 UnlessTold status Holds = UnlessDone status ((status ≡ 4) ⊎ Holds)
 
 -- an event of the core is replied so, for want of a page only where a spool of its worker was full, unless the build was spoiled before; and what the
--- newest switch decided stays
+-- newest switch decided stays, and what is kept of how many entries waited
 abbrev pub Steps : Event → Reply → KeptValue → KeptValue → Type 0
 Steps event reply before after =
-    Step before.core event reply after.core × (after.decided ≡ before.decided) × HasPageCause WantedLeasedPage before.core event reply
+    Step before.core event reply after.core × (after.decided ≡ before.decided) × (after.waited ≡ before.waited)
+    × HasPageCause WantedLeasedPage before.core event reply
 
 -- what the status of a call for an event tells
 abbrev pub Answered : Event → Reply → ℕ → Session → Session → Type 0

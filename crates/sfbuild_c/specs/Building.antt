@@ -11,7 +11,7 @@ use Rattle.build_events.specs.declared.reply.Reply.TheVariants.{Abandoned, Refus
 use Rattle.leased_core.specs.Leasing.{EndsBuild, StartsOver}
 use Rattle.kept_table.specs.Decisions.{Decides, FailsToDecide, verdicts_in}
 use Rattle.kept_table.specs.KeptTables.{KeptValue}
-use Rattle.kept_table.specs.Pieces.{DoesPiece, FailsToAdvance, WorksToTheEnd}
+use Rattle.kept_table.specs.Pieces.{DoesPiece, FailsToAdvance, NotesWaits, WorksToTheEnd}
 use Rattle.kept_table.specs.Starts.{RefusesStart, start_limits_refusal}
 use Rattle.sfbuild_c.specs.IndexBytes.{RefusesIndexes, SpellsIndexes}
 
@@ -24,7 +24,7 @@ pub record IsAskedFor (kinds : List Kind) (bytes : List ℕ) (workers ranges : �
 -- the build that is asked for starts, and reads so many pages
 abbrev pub StartsBuild : List ℕ → ℕ → ℕ → ℕ → ℕ → KeptValue → KeptValue → Type 0
 StartsBuild bytes workers ranges quota pages before after =
-    (after.decided ≡ before.decided)
+    (after.decided ≡ before.decided) × (after.waited ≡ None)
     × ((plan : Plan) × IsAskedFor before.core.live.heap.schema bytes workers ranges plan
     × (start_limits_refusal quota plan before.core ≡ None) × StartsOver quota plan before.core (Started pages) after.core)
 
@@ -37,28 +37,35 @@ RefusesBuild bytes workers ranges quota fault before after =
     × (RefusesIndexes before.core.live.heap.schema bytes fault
     ⊎ ((plan : Plan) × IsAskedFor before.core.live.heap.schema bytes workers ranges plan × RefusesStart quota plan before.core fault))))
 
--- a piece of a build, of at most so many entries of each index: the last, which is the switch, or one before it
+-- a piece of a build, which applies so many entries of each index more than were written since the piece before: the last, which is the switch, or one
+-- before it
 abbrev pub Advances : ℕ → Bool → KeptValue → KeptValue → Type 0
-Advances most true before after = IsSomeAnd after.decided (λ decided. WorksToTheEnd most before.core decided after.core)
-Advances most false before after = DoesPiece most before.core after.core × (after.decided ≡ before.decided)
+Advances most true before after =
+    IsSomeAnd after.decided (λ decided. WorksToTheEnd most before.waited before.core decided after.core) × (after.waited ≡ None)
+Advances most false before after =
+    DoesPiece most before.waited before.core after.core × (after.decided ≡ before.decided) × NotesWaits before.core before.waited after.core after.waited
 
 -- such a piece ends with a fault
 abbrev pub FailsToGoOn : ℕ → Fault → KeptValue → KeptValue → Type 0
-FailsToGoOn most fault before after = FailsToAdvance most before.core fault after.core × (after.decided ≡ before.decided)
+FailsToGoOn most fault before after =
+    FailsToAdvance most before.waited before.core fault after.core after.waited × (after.decided ≡ before.decided)
 
 -- a switch decides, of so many indexes
 abbrev pub SwitchesTo : ℕ → KeptValue → KeptValue → Type 0
 SwitchesTo indexes before after =
     IsSomeAnd after.decided (λ decided. (number : ℕ) × Decides before.core number decided after.core) × (indexes ≡ length (verdicts_in after.decided))
+    × (after.waited ≡ None)
 
 -- a switch does not decide
 abbrev pub FailsToSwitch : Fault → KeptValue → KeptValue → Type 0
-FailsToSwitch fault before after = FailsToDecide before.core fault after.core × (after.decided ≡ before.decided)
+FailsToSwitch fault before after =
+    FailsToDecide before.core fault after.core × (after.decided ≡ before.decided) × (after.waited ≡ before.waited)
 
 -- the build is given up
 abbrev pub IsGivenUp : KeptValue → KeptValue → Type 0
-IsGivenUp before after = EndsBuild Abandon Abandoned before.core after.core × (after.decided ≡ before.decided)
+IsGivenUp before after = EndsBuild Abandon Abandoned before.core after.core × (after.decided ≡ before.decided) × (after.waited ≡ None)
 
 -- it isn't
 abbrev pub IsNotGivenUp : Fault → KeptValue → KeptValue → Type 0
-IsNotGivenUp fault before after = Step before.core Abandon (Refused fault) after.core × (after.decided ≡ before.decided)
+IsNotGivenUp fault before after =
+    Step before.core Abandon (Refused fault) after.core × (after.decided ≡ before.decided) × (after.waited ≡ before.waited)

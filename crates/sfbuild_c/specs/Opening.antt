@@ -14,7 +14,7 @@ pub record IsNew (bytes : List ℕ) (slots pages : ℕ) (table : KeptValue) : Ty
   pub kinds : List Kind
   pub columns : SpellsKinds bytes kinds
   pub limits : limits_refusal slots pages ≡ None
-  pub table_is : table ≡ record { core = new_table (empty_heap kinds slots pages); decided = None }
+  pub table_is : table ≡ record { core = new_table (empty_heap kinds slots pages); decided = None; waited = None }
 
 -- there is no such table: the bytes stand for no columns; or the limits aren't a table's; or there is no memory
 abbrev pub RefusesTable : List ℕ → ℕ → ℕ → Fault → Type 0

@@ -77,7 +77,7 @@ fn boxed_table(
     pages: u32,
 ) -> Result<Box<Kept>, Fault>
     requires { limits_refusal slots_a_page pages ≡ None }
-    ensures ok { IfOk result (λ table. table.value ≡ record { core = new_table (empty_heap schema slots_a_page pages); decided = None }) }
+    ensures ok { IfOk result (λ table. table.value ≡ record { core = new_table (empty_heap schema slots_a_page pages); decided = None; waited = None }) }
     ensures memory { IfErr result (λ fault. fault ≡ Fault.Memory) }
 {
     let heap = Heap::new(alloc, schema, slots_a_page, pages)?;

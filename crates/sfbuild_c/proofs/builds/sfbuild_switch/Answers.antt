@@ -17,7 +17,7 @@ returns-in-Ok-clause-told c =
         after,
         c.in-Some.ensures.table,
         c.put.ensures.table,
-        (refl, (some_decides after.decided c.in-Ok._number before.core after.core decides, count)),
+        (refl, (some_decides after.decided c.in-Ok._number before.core after.core decides, count, c.in-Ok.ensures.forgotten)),
       ),
       c.put.ensures.cause ∙ c.take.ensures.cause,
     )

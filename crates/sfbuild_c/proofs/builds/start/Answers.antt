@@ -11,7 +11,7 @@ returns-clause-started c =
     let plan : Plan = record { specs = c.in_ok-specs.specs; workers = c.args.workers; dealing = Even c.args.ranges; tries = 1; keep_pairs = false } in
     starts c.args.indexes.now c.args.workers c.args.ranges c.args.quota c.start.result plan c.schema.result c.schema.new.self c.args.table.now c.start.new.self
     (c.schema.ensures.unchanged ∙ c.progress.ensures.unchanged) of (record { specs = c.in_ok-specs.ensures.ok; workers_are = refl; dealing = refl })
-    c.start.ensures.started c.start.ensures.accepted c.start.ensures.decided
+    c.start.ensures.started c.start.ensures.accepted c.start.ensures.decided c.start.ensures.waited
 
 pub returns-clause-refused : goal.returns-clause-refused
 returns-clause-refused c =

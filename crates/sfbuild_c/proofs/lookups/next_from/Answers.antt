@@ -1,4 +1,4 @@
-use Rattle.std.proofs.Common.{◌≡◌, ◌≤◌, ◌<◌, length, inr, arith}
+use Rattle.std.proofs.Common.{◌≤◌, ◌<◌, length, inr, arith}
 use Rattle.std.proofs.lemmas.Bool.Decides.{nat_tests}
 use Rattle.std.proofs.lemmas.Result.{err_from_is_err_and}
 use Rattle.sfbuild_c.proofs.PairCauses.{no_pair_refusal}
