@@ -23,5 +23,6 @@ pub mod Crosses
 pub mod Changing
 pub mod LeafSteps
 pub mod Ordered
+pub mod SortedChanges
 pub mod Stops
 pub mod Turns

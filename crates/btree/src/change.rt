@@ -63,18 +63,16 @@ pub fn take_first(queue: &mut VecDeque<Change>) -> Change
     }
 }
 
-/// How many changes at the front of the queue are in the order of their pairs.
-pub fn count_in_order(queue: &VecDeque<Change>) -> usize
-    ensures within { result ≤ length queue.now.items }
+/// How many changes at the front of the queue are in the order of their pairs, of at most that many, none behind which is looked at.
+pub fn count_in_order(queue: &VecDeque<Change>, most: usize) -> usize
+    requires some { 0 < most }
+    requires within { most ≤ length queue.now.items }
+    ensures some { 0 < result }
+    ensures few { result ≤ most }
     ensures order { AreInOrder (take result queue.now.items) }
-    ensures some { 0 < length queue.now.items → 0 < result }
 {
-    let len = queue.len();
-    if len == 0 {
-        return 0;
-    }
     let mut count = 1;
-    while count < len {
+    while count < most {
         let last = &queue[count - 1].pair;
         if is_before(&queue[count].pair, &last.key, last.rid) {
             break;

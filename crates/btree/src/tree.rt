@@ -1,4 +1,4 @@
-ghost use Rattle.std.specs.Prelude.{◌≡◌, ◌≤◌, ◌+◌, true, [], length, map, min, take, IsOk, IfOk, IfErr, OnOk, Some, if◌then◌else◌};
+ghost use Rattle.std.specs.Prelude.{◌≡◌, ◌≤◌, ◌+◌, ◌-◌, true, [], length, map, min, take, IsOk, IfOk, IfErr, OnOk, Some, if◌then◌else◌};
 ghost use Rattle.std.specs.FinMap.{contains_key};
 ghost use Rattle.std.specs.List.{slice_get};
 ghost use Rattle.keybytes.specs.Pairs.{set_of, with_pair, without_pair, AreOrdered};
@@ -246,18 +246,20 @@ impl Tree {
         found
     }
 
-    /// Makes the changes, from the first to the last. As far as they are in the order of their pairs it goes down to each leaf once for all
-    /// that belong there. Only an insert for which a leaf has to be split goes a way of its own, and may want memory: then what is not made yet
-    /// stays in the queue.
-    pub fn apply_sorted(&mut self, queue: &mut VecDeque<Change>) -> Result<(), Fault>
+    /// Makes the first changes of the queue, at most that many. As far as they are in the order of their pairs it goes down to each leaf once
+    /// for all that belong there. Only an insert for which a leaf has to be split goes a way of its own, and may want memory: then what is not
+    /// made yet stays in the queue. Those behind the first `most` aren't looked at.
+    pub fn apply_sorted(&mut self, queue: &mut VecDeque<Change>, most: usize) -> Result<(), Fault>
         ensures made { Made self.old.pairs self.new.pairs queue.old.items queue.new.items }
         ensures whole { changed queue.new.items (set_of self.new.pairs) ≡ changed queue.old.items (set_of self.old.pairs) }
-        ensures all { OnOk result (queue.new.items ≡ []) }
+        ensures all { OnOk result (length queue.new.items ≡ length queue.old.items - most) }
         ensures memory { IfErr result (λ fault. fault ≡ Fault.Memory) }
     {
-        'runs: while !queue.is_empty() {
-            let count = count_in_order(queue);
+        let mut left = most.min(queue.len());
+        while left > 0 {
+            let count = count_in_order(queue, left);
             apply_run(self, queue, count)?;
+            left -= count;
         }
         Ok(())
     }

@@ -1,10 +1,10 @@
 -- What a record more adds to the entries of a build's indexes: two at most to each.
-use Rattle.std.proofs.Common.{◌≡◌, ◌<◌, ◌≤◌, ◌+◌, ◌-◌, ◌*◌, ℕ, zero, suc, Bool, true, false, cond, List, [], ◌∷◌, ◌++◌, length, Option, Some, None, refl, ap, ◌∙◌, inl, inr, arith, length-append}
+use Rattle.std.proofs.Common.{◌≡◌, ◌<◌, ◌≤◌, ◌+◌, ◌-◌, ◌*◌, ℕ, zero, suc, Bool, true, false, cond, List, [], ◌∷◌, ◌++◌, length, drop, Option, Some, None, refl, ap, ◌∙◌, inl, inr, arith, length-append}
 use Rattle.std.specs.Prelude.{nat_eq, nat_le}
 use Rattle.std.specs.Cmp.Lexicographic.{pointwise}
 use Rattle.std.specs.List.{slice_get}
 use Rattle.std.proofs.lemmas.Bool.{cases_Bool, leb-true, leb-false}
-use Rattle.std.proofs.lemmas.List.{drop_all}
+use Rattle.std.proofs.lemmas.List.{drop_all, length-drop}
 use Rattle.keybytes.specs.Keys.{KeySpecValue}
 use Rattle.keybytes.specs.declared.pair.Pair.{Pair}
 use Rattle.keybytes.specs.declared.rid.Rid.{Rid}
@@ -110,3 +110,27 @@ adds_before (suc n) b log rec =
       few = omega (arith, before.few, one.few);
       none = λ no_rid. omega (arith, before.none no_rid, one.none no_rid);
     }
+
+-- No side-file has more than two entries for each record of the log.
+
+from_few : (b : Scanning) (log more : List LogRec) → length (entries_from b log more) ≤ 2 * length more
+from_few b log [] = omega arith
+from_few b log (rec ∷ more) =
+    let here = entries_few b log rec (changed_rid log rec) in
+    let rest = from_few b (log ++ rec ∷ []) more in
+    omega (arith, length-append (entries_of b log rec) (entries_from b (log ++ rec ∷ []) more), here, rest)
+
+unfed_few : (b : BuildState) (log : List LogRec) (index : ℕ) (o : Option KeySpecValue) → unfed b log index o ≤ 2 * length log
+unfed_few b log index None = omega arith
+unfed_few b log index (Some spec) =
+    let opened : ℕ = (scanning_of b spec).opened in
+    let all = from_few (scanning_of b spec) (first_records opened log) (drop opened log) in
+    omega (arith, all, length-drop opened log)
+
+pub before_few : (n : ℕ) (b : BuildState) (log : List LogRec) → unfed_before n b log ≤ n * (2 * length log)
+before_few zero b log = omega arith
+before_few (suc n) b log =
+    let earlier = before_few n b log in
+    let here = unfed_few b log n (slice_get b.specs n) in
+    let more : suc n * (2 * length log) ≡ n * (2 * length log) + 2 * length log = omega arith in
+    omega (arith, earlier, here, more)

@@ -52,7 +52,7 @@ module _
   abbrev new_it : IndexValue
   new_it = record { built = Some after; applied = count }
 
-  applied_index : (spec : KeySpecValue) → IsIndexOf work.build spec workers end it → IsIndexOf work.build spec workers new_end new_it
+  pub applied_index : (spec : KeySpecValue) → IsIndexOf work.build spec workers end it → IsIndexOf work.build spec workers new_end new_it
   applied_index spec is = record {
     none_before = λ e. absurd (cc);
     of_build = λ b e. ap (λ (x : BuiltValue). x.build) (sym (same_Some after b e)) ∙ applied.build ∙ is.of_build built loaded;

@@ -1,8 +1,10 @@
 pub mod AppliedKept
 pub mod Applying
 pub mod AtWork
-pub mod BatchLemmas
+pub mod BatchTurns
+pub mod BatchesKept
 pub mod Beginning
+pub mod Crosses
 pub mod BroughtHome
 pub mod Equipping
 pub mod HandedKept

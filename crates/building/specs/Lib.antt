@@ -1,3 +1,4 @@
+pub mod BatchTurns
 pub mod Batches
 pub mod BuildingValue
 pub mod Equipped

@@ -1,32 +1,40 @@
-//! All entries that wait for an index, applied as one batch.
+//! All entries that wait for the indexes of a build, applied as batches.
 ghost use Rattle.std.specs.Prelude.{◌≡◌, IfOk, IfErr};
-ghost use Rattle.building.specs.Batches.{BatchStopped, HasAppliedAll};
-ghost use Rattle.building.specs.Working.{CanApply};
+ghost use Rattle.building.specs.Batches.{BatchesStopped, CanApplyBatches, HasAppliedBatches};
 
+use crate::batch_turns::apply_all;
 use crate::beside::Building;
+use catch_up::Pace;
 use keybytes::Fault;
 use page_workers::TableRings;
 use run_spool::Spool;
 use std::alloc::Global;
+use std::thread::Threads;
 
 impl<S: Spool, T: TableRings> Building<S, T> {
-    /// Applies all entries that the index's ring is seen to have as one batch, and answers how many. Want of memory spoils the build;
-    /// [`Fault::Memory`] is also the answer where more would be applied than `usize` counts.
-    pub fn apply_batch(&mut self, alloc: Global, index: usize) -> Result<usize, Fault>
-        requires { CanApply index 0 self.old }
-        ensures applied { IfOk result (λ count. HasAppliedAll index self.old count self.new) }
-        ensures stopped { IfErr result (λ fault. BatchStopped index self.old fault self.new) }
+    /// Looks into the ring of each index of the build, and applies all entries found there: each index's as one batch, the indexes side by side, each in
+    /// a thread where there are processors for it. Answers how many these are together. Each batch tells `pace` of itself, from its thread. Want of memory
+    /// spoils the build, and of its indexes nothing is known then; [`Fault::Memory`] is also the answer where more would be applied than `usize` counts.
+    pub fn apply_batches<R: Threads + Sync, P: Pace + Sync>(
+        &mut self,
+        rt: &R,
+        alloc: Global,
+        pace: &P,
+    ) -> Result<usize, Fault>
+        requires { CanApplyBatches self.old }
+        ensures applied { IfOk result (λ count. HasAppliedBatches self.old count self.new) }
+        ensures stopped { IfErr result (λ fault. BatchesStopped self.old fault self.new) }
         ensures memory { IfErr result (λ fault. fault ≡ Fault.Memory) }
     {
         let Some(work) = &mut self.work else {
             unreachable!()
         };
-        let end = &mut self.side_ends[index];
-        let count = match work.indexes[index].apply_batch(alloc, end) {
+        let ends = &mut self.side_ends;
+        let count = match apply_all(rt, alloc, pace, &mut work.indexes, ends) {
             Ok(count) => count,
-            Err(fault) => {
-                work.spoiled = Some(fault);
-                return Err(fault);
+            Err(refused) => {
+                work.spoiled = Some(refused);
+                return Err(refused);
             }
         };
         Ok(count)

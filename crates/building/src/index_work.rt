@@ -5,7 +5,7 @@ ghost use Rattle.building.specs.Batches.{BatchIsIn};
 ghost use Rattle.building.specs.Verdicts.{its_verdict};
 
 use btree::Tree;
-use catch_up::{Built, apply_batch};
+use catch_up::{Built, Pace, apply_batch};
 use keybytes::Fault;
 use side_file::EntryEnd;
 use std::alloc::Global;
@@ -54,7 +54,12 @@ impl IndexWork {
 
     /// Applies all entries that the ring is known to have to its pairs, which are in order, and answers how many. Where memory is wanted, as where
     /// they can't be counted, the index is of no more use.
-    pub(crate) fn apply_batch(&mut self, alloc: Global, end: &mut EntryEnd) -> Result<usize, Fault>
+    pub(crate) fn apply_batch<P: Pace>(
+        &mut self,
+        alloc: Global,
+        end: &mut EntryEnd,
+        pace: &P,
+    ) -> Result<usize, Fault>
         requires { IsSome self.old.built }
         ensures applied { IfOk result (λ count. BatchIsIn end.old.known self.old count self.new) }
         ensures taken { OnOk result (TakesKnown end.old end.new) }
@@ -67,7 +72,7 @@ impl IndexWork {
         let Some(applied) = self.applied.checked_add(end.known()) else {
             return Err(Fault::Memory);
         };
-        let count = apply_batch(alloc, built, end)?;
+        let count = apply_batch(alloc, built, end, pace)?;
         built.laws();
         self.applied = applied;
         Ok(count)

@@ -8,6 +8,7 @@
 //! the build that a table knows is said once, by `AreAtWork` and `IsWorkOfBuild` of `specs/WorkOn.antt`.
 #![tactic(auto)]
 
+mod batch_turns;
 mod batches;
 mod beside;
 mod ends;

@@ -1,16 +1,17 @@
 -- What changes do to a pair is decided by the last one of it, so that changes of other pairs may stand anywhere between.
-use Rattle.std.proofs.Common.{◌≡◌, Bool, true, false, cond, List, [], ◌∷◌, refl, sym, ap, ◌∙◌, inl, inr}
+use Rattle.std.proofs.Common.{◌≡◌, ℕ, Bool, true, false, cond, List, [], ◌∷◌, refl, sym, ap, ◌∙◌, inl, inr}
 use Rattle.std.specs.Prelude.{◌||◌, ◌&&◌, not, filter}
 use Rattle.std.specs.declared.cmp.Ordering.{Ordering}
 use Rattle.std.specs.declared.cmp.Ordering.TheVariants.{Less, Equal, Greater}
-use Rattle.std.specs.Ordering.{eq_by_cmp, is_eq, is_lt, ordering_reverse}
-use Rattle.std.specs.List.Sorted.{ties, IsStableBy}
+use Rattle.std.specs.Ordering.{nat_cmp, eq_by_cmp, is_eq, is_lt, ordering_reverse}
+use Rattle.std.specs.List.Sorted.{ties, IsStableBy, IsStableByKey}
 use Rattle.std.specs.FinSet.{FinSet}
 use Rattle.std.specs.FinMap.{contains_key}
-use Rattle.std.proofs.lemmas.Bool.{cases_Bool, cond-true, cond-false}
+use Rattle.std.proofs.lemmas.Bool.{cases_Bool, cond-true, cond-false, false≢true, false_from_ne_true}
+use Rattle.std.proofs.lemmas.Cmp.{nat_cmp_total, tied_itself}
 use Rattle.keybytes.specs.Pairs.{pair_cmp}
 use Rattle.keybytes.specs.declared.pair.Pair.{Pair}
-use Rattle.keybytes.proofs.PairSets.{pairs_total, same_members, contains-insert, contains-remove}
+use Rattle.keybytes.proofs.PairSets.{pairs_total, tied_pairs, same_members, contains-insert, contains-remove}
 use Rattle.btree.specs.declared.change.Change.{Change}
 use Rattle.btree.specs.Changes.{changed, changed_by}
 
@@ -89,3 +90,47 @@ same_when_stable es fs stable s =
     ∙ ap (λ xs. decided passes there xs was) (stable (probe q))
     ∙ decided_filter passes there es was
     ∙ sym (member_after es q s))
+
+-- a filter finds all that it lets through among what a wider one lets through
+filter_wider :
+    {X : Type 0} (passes wider : X → Bool) → ((x : X) → passes x ≡ true → wider x ≡ true) → (xs : List X)
+    → filter passes (filter wider xs) ≡ filter passes xs
+filter_wider passes wider is_wider [] = refl
+filter_wider passes wider is_wider (x ∷ xs) =
+    let rest = filter_wider passes wider is_wider xs in
+    elim (cases_Bool (wider x)) [
+      | inl stays ↦
+          ap (filter passes) (cond-true (wider x) (x ∷ filter wider xs) (filter wider xs) stays)
+          ∙ ap (λ ys. cond (passes x) (x ∷ ys) ys) rest
+      | inr goes ↦
+          let out = false_from_ne_true (passes x) (λ sees. false≢true (sym goes ∙ is_wider x sees)) in
+          ap (filter passes) (cond-false (wider x) (x ∷ filter wider xs) (filter wider xs) goes)
+          ∙ rest
+          ∙ sym (cond-false (passes x) (x ∷ filter passes xs) (filter passes xs) out)
+    ]
+
+-- the order of two changes' numbers
+abbrev numbered_before : (List ℕ → ℕ) → Change → Change → Bool
+numbered_before number a b = is_lt (nat_cmp (number a.pair.key) (number b.pair.key))
+
+-- changes of one pair have one number
+one_number : (number : List ℕ → ℕ) (a b : Change) → ties before a b ≡ true → ties (numbered_before number) a b ≡ true
+one_number number a b tie =
+    let n = number a.pair.key in
+    let same = tied_pairs a.pair b.pair (sym (tie_here a.pair b) ∙ tie) in
+    ap (λ (p : Pair). not (is_lt (nat_cmp n (number p.key))) && not (is_lt (nat_cmp (number p.key) n))) (sym same)
+    ∙ ap (λ o. not (is_lt o) && not (is_lt o)) (tied_itself nat_cmp_total n)
+
+-- changes that stand otherwise, but for those whose keys have one number
+pub same_by_number :
+    (number : List ℕ → ℕ) (es fs : List Change) → IsStableByKey (λ e. number e.pair.key) nat_cmp es fs
+    → (s : FinSet pair_cmp) → changed fs s ≡ changed es s
+same_by_number number es fs stable s =
+    same_when_stable es fs
+    (λ e.
+    let passes : Change → Bool = ties before e in
+    let wider : Change → Bool = ties (numbered_before number) e in
+    sym (filter_wider passes wider (one_number number e) fs)
+    ∙ ap (filter passes) (stable e)
+    ∙ filter_wider passes wider (one_number number e) es)
+    s

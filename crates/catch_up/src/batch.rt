@@ -2,24 +2,34 @@
 ghost use Rattle.std.specs.Prelude.{◌≡◌, ◌⊎◌, ◌+◌, ◌<◌, ◌≤◌, true, [], ◌++◌, ◌∷◌, length, is_some, vec_len, vec_capacity, IfOk, OnOk, OnErr, IfErr};
 ghost use Rattle.std.specs.FinSet.{FinSet};
 ghost use Rattle.keybytes.specs.Pairs.{pair_cmp, set_of};
-ghost use Rattle.btree.specs.Changes.{changed, changed_by};
+ghost use Rattle.btree.specs.Changes.{changed, changed_by, AreInOrder};
 ghost use Rattle.unique_verdict.specs.Shared.{shared_of};
 ghost use Rattle.catch_up.specs.Applying.{Applied, TakesKnown};
-ghost use Rattle.catch_up.specs.Batches.{change_of, changes_to};
+ghost use Rattle.catch_up.specs.Batches.{change_of, changes_to, head_of};
 ghost use Rattle.catch_up.specs.Built.{Tallies};
 
 use crate::Built;
+use crate::pace::Pace;
 use btree::{Change, Tree};
-use keybytes::{Fault, Pair};
+use keybytes::{Fault, Key, Pair};
 use side_file::{Entry, EntryEnd, Op};
 use std::alloc::Global;
 use std::collections::VecDeque;
 use unique_verdict::Tally;
 
+/// How many changes are made before it is told.
+const PORTION: usize = 1024;
+
 /// Takes all entries out that the ring is known to have, and applies those of the index's build, in the order of their pairs. Answers
-/// how many it took. An index that keeps no tally goes down to each leaf once. [`Fault::Memory`] is also wanted for the batch and for its
-/// sort. Where it is refused the entries may be lost, and the index is of no more use.
-pub fn apply_batch(alloc: Global, built: &mut Built, end: &mut EntryEnd) -> Result<usize, Fault>
+/// how many it took. An index that keeps no tally goes down to each leaf about once. `pace` is told after each 1,024 that were applied, and
+/// holds up the batch as long as it likes. [`Fault::Memory`] is also wanted for the batch and for its sort. Where it is refused the entries may be
+/// lost, and the index is of no more use.
+pub fn apply_batch<P: Pace>(
+    alloc: Global,
+    built: &mut Built,
+    end: &mut EntryEnd,
+    pace: &P,
+) -> Result<usize, Fault>
     ensures taken { OnOk result (TakesKnown end.old end.new) }
     ensures applied { OnOk result (Applied end.old.known built.old built.new) }
     ensures count { IfOk result (λ count. count ≡ length end.old.known) }
@@ -31,7 +41,7 @@ pub fn apply_batch(alloc: Global, built: &mut Built, end: &mut EntryEnd) -> Resu
     let count = end.known();
     let mut batch = take_batch(alloc, built.build(), end)?;
     sort_batch(&mut batch)?;
-    built.make_all(VecDeque::from_vec(batch))?;
+    built.make_all(VecDeque::from_vec(batch), pace)?;
     Ok(count)
 }
 
@@ -75,8 +85,10 @@ fn change(entry: Entry) -> Change
 /// Puts changes into the order of their pairs; those of one pair stay in their order. What they make of a set of pairs stays the same.
 fn sort_batch(batch: &mut Vec<Change>) -> Result<(), Fault>
     ensures same { (pairs : FinSet pair_cmp) → changed batch.new.items pairs ≡ changed batch.old.items pairs }
+    ensures order { OnOk result (AreInOrder batch.new.items) }
     ensures memory { IfErr result (λ fault. fault ≡ Fault.Memory) }
 {
+    bring_near(batch);
     let sorted = batch.sort_by(|a, b| {
         a.pair
             .key
@@ -89,38 +101,84 @@ fn sort_batch(batch: &mut Vec<Change>) -> Result<(), Fault>
     }
 }
 
-/// Makes the changes, from the first to the last, and tells the tally of each, if one is kept.
-pub fn make_all(
+/// Brings changes near the order of their pairs, by numbers, which are compared much faster than keys: the sort of the pairs then mostly finds
+/// them in order. Where there is no memory for the numbers, nothing is moved.
+fn bring_near(batch: &mut Vec<Change>)
+    ensures { (pairs : FinSet pair_cmp) → changed batch.new.items pairs ≡ changed batch.old.items pairs }
+{
+    let _ = batch.sort_by_cached_key(|change| head(&change.pair.key));
+}
+
+/// The number that the eight bytes behind the first one make, which is mostly the same one for all keys; 0 where the key is too short.
+fn head(key: &Key) -> u64
+    ensures { result ≡ head_of key.now }
+{
+    let Some((_, rest)) = key.bytes().split_first() else {
+        return 0;
+    };
+    match rest.split_first_chunk::<8>() {
+        Some((head, _)) => u64::from_be_bytes(*head),
+        None => 0,
+    }
+}
+
+/// Makes the changes, from the first to the last, and tells the tally of each, if one is kept. The pace is told after each portion.
+pub fn make_all<P: Pace>(
     tree: &mut Tree,
     tally: &mut Option<Tally>,
-    changes: VecDeque<Change>,
+    changes: &mut VecDeque<Change>,
+    pace: &P,
 ) -> Result<(), Fault>
     requires { Tallies tally.old (set_of tree.old.pairs) }
     ensures tallies { Tallies tally.new (set_of tree.new.pairs) }
     ensures kept { is_some tally.new ≡ is_some tally.old }
-    ensures made { OnOk result (set_of tree.new.pairs ≡ changed changes.items (set_of tree.old.pairs)) }
+    ensures made { OnOk result (set_of tree.new.pairs ≡ changed changes.old.items (set_of tree.old.pairs)) }
     ensures memory { IfErr result (λ fault. fault ≡ Fault.Memory) }
 {
-    let mut changes = changes;
+    while !changes.is_empty() {
+        let count = changes.len().min(PORTION);
+        make_portion(tree, tally, changes, count)?;
+        pace.applied(count);
+    }
+    Ok(())
+}
+
+/// Makes the first `count` changes, and tells the tally of each, if one is kept.
+fn make_portion(
+    tree: &mut Tree,
+    tally: &mut Option<Tally>,
+    changes: &mut VecDeque<Change>,
+    count: usize,
+) -> Result<(), Fault>
+    requires tallies { Tallies tally.old (set_of tree.old.pairs) }
+    requires there { count ≤ length changes.old.items }
+    ensures tallies { Tallies tally.new (set_of tree.new.pairs) }
+    ensures kept { is_some tally.new ≡ is_some tally.old }
+    ensures made { changed changes.new.items (set_of tree.new.pairs) ≡ changed changes.old.items (set_of tree.old.pairs) }
+    ensures all { OnOk result (length changes.new.items + count ≡ length changes.old.items) }
+    ensures memory { IfErr result (λ fault. fault ≡ Fault.Memory) }
+{
     match tally {
-        Some(tally) => make_tallied(tree, tally, &mut changes),
-        None => tree.apply_sorted(&mut changes),
+        Some(tally) => make_tallied(tree, tally, changes, count),
+        None => tree.apply_sorted(changes, count),
     }
 }
 
-/// Makes the changes one by one, and tells the tally of each.
+/// Makes the first `count` changes one by one, and tells the tally of each.
 fn make_tallied(
     tree: &mut Tree,
     tally: &mut Tally,
     changes: &mut VecDeque<Change>,
+    count: usize,
 ) -> Result<(), Fault>
-    requires { tally.old ≡ shared_of (set_of tree.old.pairs) }
+    requires tallies { tally.old ≡ shared_of (set_of tree.old.pairs) }
+    requires there { count ≤ length changes.old.items }
     ensures tallies { tally.new ≡ shared_of (set_of tree.new.pairs) }
     ensures made { changed changes.new.items (set_of tree.new.pairs) ≡ changed changes.old.items (set_of tree.old.pairs) }
-    ensures all { OnOk result (changes.new.items ≡ []) }
+    ensures all { OnOk result (length changes.new.items + count ≡ length changes.old.items) }
     ensures memory { IfErr result (λ fault. fault ≡ Fault.Memory) }
 {
-    for _ in 0..changes.len() {
+    for _ in 0..count {
         make_first(tree, tally, changes)?;
     }
     Ok(())

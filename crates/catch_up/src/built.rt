@@ -7,6 +7,7 @@ ghost use Rattle.unique_verdict.specs.Verdicts.{IsShort, accepts};
 
 use crate::batch;
 use crate::changing::{change, count, make_room};
+use crate::pace::Pace;
 use btree::{Change, Tree};
 use keybytes::Fault;
 use side_file::EntryEnd;
@@ -152,13 +153,18 @@ impl Built {
         Ok(())
     }
 
-    /// Makes the changes, from the first to the last. Where memory is wanted nothing is known of the pairs.
-    pub(crate) fn make_all(&mut self, changes: VecDeque<Change>) -> Result<(), Fault>
+    /// Makes the changes, from the first to the last, and tells the pace of them. Where memory is wanted nothing is known of the pairs.
+    pub(crate) fn make_all<P: Pace>(
+        &mut self,
+        changes: VecDeque<Change>,
+        pace: &P,
+    ) -> Result<(), Fault>
         ensures build { self.new.build ≡ self.old.build }
         ensures unique { self.new.unique ≡ self.old.unique }
         ensures made { OnOk result (set_of self.new.pairs ≡ changed changes.items (set_of self.old.pairs)) }
         ensures memory { IfErr result (λ fault. fault ≡ Fault.Memory) }
     {
-        batch::make_all(&mut self.tree, &mut self.tally, changes)
+        let mut changes = changes;
+        batch::make_all(&mut self.tree, &mut self.tally, &mut changes, pace)
     }
 }

@@ -4,7 +4,7 @@ use denote.Ref.{NamedLft}
 use mathlib.Core.List.{List, [], ◌∷◌}
 use mir.Syntax.{Sym}
 use denote.Param.Send.{AllSend, IsSend, IsSync, sendable, view_send}
-use denote.Param.SendFields.{FieldsHave, as_row_send, declared_send}
+use denote.Param.SendFields.{FieldsHave, as_row_send, declared_send, declared_sync}
 use denote.Struct.Field.{row_field}
 use denote.Struct.Tuple.{TupleAt, parts, type_at}
 use Rattle.std.proofs.Crossing.{crosses}
@@ -20,6 +20,7 @@ use Rattle.crew.specs.contracts.locked.Locked as Locked
 use Rattle.crew.specs.contracts.locked.Locked.TheInside as Inside
 use Rattle.crew.specs.contracts.table.Table as Table
 use Rattle.crew.specs.contracts.session.Session as Session
+use Rattle.crew.specs.contracts.online_build.turns.Applying as Applying
 
 module _ (T : RattleType) (o : opened.Ghosts T.Denot) (n : named.Ghosts T.Denot) (t : table.Ghosts T.Denot) where
   locked_send : IsSend (Locked.the_row T o n t)
@@ -36,6 +37,10 @@ module _ (T : RattleType) (o : opened.Ghosts T.Denot) (n : named.Ghosts T.Denot)
 
   pub table_sync : IsSync (Table.the_row T o n t)
   table_sync = search (locked_send, sendable, crosses) depth 20
+
+  -- who applies a batch tells of it from several threads
+  pub applying_sync : (κ : NamedLft) → IsSync (Applying.the_row κ T o n t)
+  applying_sync κ = declared_sync (Applying.the_type κ T o n t) (search (table_sync, sendable) depth 20, tt)
 
   pub session_send : (κ : NamedLft) → IsSend (Session.the_row κ T o n t)
   session_send κ = search (table_sync, known.the_send, sendable) depth 20

@@ -4,13 +4,13 @@ use Rattle.std.specs.List.{slice_get}
 use Rattle.std.specs.Prelude.{IfSome}
 use Rattle.std.proofs.lemmas.Option.{get_or_from_slice_get}
 use Rattle.keybytes.specs.Keys.{KeySpecValue}
-use Rattle.build_events.specs.BuildSteps.{AreFurther, CatchesUp, OnBuild}
+use Rattle.build_events.specs.BuildSteps.{OnBuild}
 use Rattle.build_events.specs.CoreState.{BuildState, CoreState, IndexState, WorkState}
 use Rattle.build_events.specs.Workers.{in_ring, index_at}
 use Rattle.building.proofs.OneWorker.{the_work}
 use Rattle.building.specs.BuildingValue.{BuildingValue, IndexValue, WorkValue, index_state}
 use Rattle.live_lemmas.specs.Builds.{LiveValue, StandsBeside, core_state}
-use Rattle.live_lemmas.specs.Settling.{IsSettled, OnlyFeeds, Settles}
+use Rattle.live_lemmas.specs.Settling.{IsSettled, OnlyFeeds}
 use Rattle.live_lemmas.specs.Switching.{IsPartOf}
 use Rattle.page_workers.proofs.Places.{below, map_at, there_is}
 use Rattle.crew.specs.Credits.{indexes_of_build}
@@ -60,36 +60,16 @@ module _ (live new_live : LiveValue) (building new : BuildingValue) where
   abbrev t : CoreState
   t = core_state new_live new
 
-  pub settled_stakes : Settles s t → stakes_beside new ≡ stakes_beside building
-  settled_stakes settles = ap (λ (x : CoreState). x.spools.stakes) settles
-
-  pub settled_log : Settles s t → new_live.state.heap.log ≡ live.state.heap.log
-  settled_log settles = ap (λ (x : CoreState). x.live.heap.log) settles
-
-  pub settled_build : Settles s t → new_live.state.build ≡ live.state.build
-  settled_build settles = ap (λ (x : CoreState). x.live.build) settles
-
-  still_loaded : (b : BuildState) → live.state.build ≡ Some b → CatchesUp s t → (k : ℕ) → k < length b.specs
-      → (index_at t.work.indexes k).loaded ≡ (index_at s.work.indexes k).loaded
-  still_loaded b runs further k less =
-      let Caught : BuildState → Type 0 =
-      λ x. (fed : List ℕ) × (indexes : List IndexState) × AreFurther x s.live.heap.log s.work.indexes fed indexes
-      × (t ≡ record s { live = record s.live { build = Some (record x { fed = fed }) }; work = record s.work { indexes = indexes } }) in
-      let it : Caught b = subst (λ (o : Option BuildState). OnBuild o Caught) runs further in
-      let spec = there_is b.specs k less in
-      ap (λ (x : CoreState). (index_at x.work.indexes k).loaded) it.3 ∙ (it.2.each k spec.0 spec.1).loaded
-
-  pub settled_goes_on :
-      IsPartOf live building → StandsBeside new_live new → Settles s t → CatchesUp s t
-      → (count : ℕ) (specs : List KeySpecValue) → GoesOnWith count specs building → GoesOnWith count specs new
-  settled_goes_on part works settles further count specs on =
+  -- nothing was done but a look
+  pub looked_goes_on :
+      IsPartOf live building → StandsBeside new_live new → t ≡ s → (count : ℕ) (specs : List KeySpecValue) → GoesOnWith count specs building → GoesOnWith count specs new
+  looked_goes_on part works same count specs on =
       let b : BuildState = part.of.build in
       let its : part.of.work ≡ on.work = the_work building.work part.of.work on.work part.of.there on.runs in
       let specs_are : b.specs ≡ specs = part.of.specs ∙ ap (λ (x : WorkValue). x.specs) its ∙ on.specs_are in
-      let many = ap length specs_are in
-      beside_goes_on new_live new b (settled_build settles ∙ part.of.runs) works
-      (ap (λ (x : CoreState). x.work.spoiled) settles ∙ spoiled_is building on.work on.runs ∙ on.fine) count specs specs_are on.few
-      (λ k less there. still_loaded b part.of.runs further k (omega (arith, there, many)) ∙ were_loaded live building count specs on k less there)
+      beside_goes_on new_live new b (ap (λ (x : CoreState). x.live.build) same ∙ part.of.runs) works
+      (ap (λ (x : CoreState). x.work.spoiled) same ∙ spoiled_is building on.work on.runs ∙ on.fine) count specs specs_are on.few
+      (λ k less there. ap (λ (x : CoreState). (index_at x.work.indexes k).loaded) same ∙ were_loaded live building count specs on k less there)
 
   pub fed_goes_on :
       StandsBeside live building → StandsBeside new_live new → OnlyFeeds s t

@@ -1,25 +1,25 @@
--- What loads and entries that are applied leave of a build that goes on.
-use Rattle.std.proofs.Common.{◌≡◌, ℕ, zero, suc, ◌+◌, ◌<◌, true, false, List, [], ◌∷◌, ◌++◌, All, length, map, Option, Some, None, refl, sym, ap, ap₂, subst, ◌∙◌, inl, inr, length-set}
-use Rattle.std.specs.Prelude.{IfSome, is_some}
+-- What loads and batches leave of a build that goes on.
+use Rattle.std.proofs.Common.{◌≡◌, ℕ, zero, suc, ◌<◌, ◌≤◌, true, false, List, [], ◌∷◌, ◌++◌, All, length, map, Option, Some, None, refl, sym, ap, ap₂, subst, ◌∙◌, arith}
+use Rattle.std.specs.Prelude.{IfSome, IsSome, is_some}
 use Rattle.std.specs.List.{slice_get}
-use Rattle.std.proofs.lemmas.List.{map-append}
+use Rattle.std.proofs.lemmas.List.{length-map, map-append}
 use Rattle.std.proofs.lemmas.Option.{same_Some}
 use Rattle.keybytes.specs.Keys.{KeySpecValue}
 use Rattle.keybytes.specs.declared.fault.Fault.{Fault}
 use Rattle.keybytes.specs.declared.pair.Pair.{Pair}
 use Rattle.page_workers.specs.SpoolValue.{SpoolValue, ended_spool, stakes_of}
 use Rattle.page_workers.specs.WorkerValue.{WorkerValue}
-use Rattle.page_workers.proofs.Places.{at_set}
+use Rattle.page_workers.proofs.Places.{all_at, all_from, at_map, below}
 use Rattle.building.proofs.OneWorker.{the_work}
-use Rattle.building.specs.BuildingValue.{BuildingValue, IndexValue, WorkValue, with_index}
+use Rattle.building.specs.BuildingValue.{BuildingValue, IndexValue, WorkValue}
 use Rattle.building.specs.Holding.{workers_spools}
 use Rattle.building.specs.IndexLoads.{CanLoadAll, HasLoadedAll, LoadsStopped, loaded_from}
 use Rattle.building.specs.Keeping.{KeepsWork}
-use Rattle.building.specs.Working.{HasApplied, HasSeenEntries}
+use Rattle.building.specs.Batches.{BatchIsIn, BatchesStopped, CanApplyBatches, HasAppliedBatches, IndexBatch, IsApplied, entries_of}
+use Rattle.side_file.specs.declared.entry.Entry.{Entry}
 use Rattle.live_lemmas.specs.Builds.{LiveValue}
 use Rattle.live_lemmas.specs.Switching.{HandsOver}
 use Rattle.crew.specs.Places.{GoesOnWith, stakes_beside}
-use Rattle.crew.proofs.Steps.{goes_same}
 
 -- the same workers, and spools of the same stakes
 beside_same : (building new : BuildingValue) → new.workers ≡ building.workers → stakes_of new.spools ≡ stakes_of building.spools → stakes_beside new ≡ stakes_beside building
@@ -28,23 +28,6 @@ beside_same building new workers spools =
     map-append stake new.spools (workers_spools new.workers)
     ∙ ap₂ (λ (home : List _) (all : List WorkerValue). home ++ stakes_of (workers_spools all)) spools workers
     ∙ sym (map-append stake building.spools (workers_spools building.workers))
-
--- one index more is in order
-set_goes :
-    (count more : ℕ) (specs : List KeySpecValue) (building new : BuildingValue) (on : GoesOnWith count specs building) (index applied : ℕ) (pairs : List Pair) (its : WorkValue)
-    → its ≡ on.work → new.work ≡ Some (with_index its index pairs applied) → ((k : ℕ) → k < more → (k ≡ index → ⊥) → k < count) → GoesOnWith more specs new
-set_goes count more specs building new on index applied pairs its same runs others = record {
-  work = with_index its index pairs applied;
-  runs = runs;
-  specs_are = ap (λ (w : WorkValue). w.specs) same ∙ on.specs_are;
-  few = on.few;
-  many = length-set its.indexes index _ ∙ ap (λ (w : WorkValue). length w.indexes) same ∙ on.many;
-  fine = ap (λ (w : WorkValue). w.spoiled) same ∙ on.fine;
-  loaded = λ k it less at. elim (at_set its.indexes index _ k it at) [
-    | inl this ↦ ap (λ (i : IndexValue). is_some i.built) this.1
-    | inr other ↦ on.loaded k it (others k less other.0) (ap (λ (w : WorkValue). slice_get w.indexes k) (sym same) ∙ other.1)
-  ];
-}
 
 -- The loads.
 
@@ -107,22 +90,46 @@ all_load live new_live building new keeps over specs on scans =
       none = subst (λ (w : WorkValue). All (λ index. index.built ≡ None) w.indexes) (sym its) (kept.unloaded lent);
     }
 
--- Entries.
+-- Batches.
 
-pub seen_stakes : (index : ℕ) (old : BuildingValue) (seen : ℕ) (new : BuildingValue) → HasSeenEntries index old seen new → stakes_beside new ≡ stakes_beside old
-seen_stakes index old seen new sees = ap stakes_beside sees.left
+-- a build that goes on with all its indexes in order takes batches
+pub can_apply_all : (specs : List KeySpecValue) (building : BuildingValue) → GoesOnWith (length specs) specs building → CanApplyBatches building
+can_apply_all specs building on = record {
+  work = on.work;
+  runs = on.runs;
+  fine = on.fine;
+  few = omega (arith, on.many, on.few);
+  loaded = all_from (λ (index : IndexValue). IsSome index.built) on.work.indexes
+      (λ k index at. let here = below on.work.indexes k index at in on.loaded k index (omega (arith, here, on.many)) at);
+}
 
-pub seen_goes_on :
-    (index : ℕ) (old : BuildingValue) (seen : ℕ) (new : BuildingValue) → HasSeenEntries index old seen new → (count : ℕ) (specs : List KeySpecValue)
-    → GoesOnWith count specs old → GoesOnWith count specs new
-seen_goes_on index old seen new sees count specs on = goes_same count specs old new (ap (λ (b : BuildingValue). b.work) sees.left) on
+-- and has them still
+is_in_order : (entries : List Entry) (old : IndexValue) (count : ℕ) (new : IndexValue) → BatchIsIn entries old count new → is_some new.built ≡ true
+is_in_order entries old count new batch = ap (λ (i : IndexValue). is_some i.built) batch.left
 
-pub applied_stakes : (index : ℕ) (old : BuildingValue) (count : ℕ) (new : BuildingValue) → HasApplied index old count new → stakes_beside new ≡ stakes_beside old
-applied_stakes index old count new does = ap stakes_beside does.left
+module _ (old : BuildingValue) (count : ℕ) (new : BuildingValue) (does : HasAppliedBatches old count new) where
+  pub batches_stakes : stakes_beside new ≡ stakes_beside old
+  batches_stakes = ap stakes_beside does.left
 
-pub applied_goes_on :
-    (index : ℕ) (old : BuildingValue) (entries : ℕ) (new : BuildingValue) → HasApplied index old entries new → (count : ℕ) (specs : List KeySpecValue)
-    → GoesOnWith count specs old → GoesOnWith count specs new
-applied_goes_on index old entries new does count specs on =
-    set_goes count count specs old new on index (does.taking.it.applied + entries) does.pairs does.taking.work
-    (the_work old.work does.taking.work on.work does.taking.runs on.runs) (ap (λ (b : BuildingValue). b.work) does.left) (λ k less other. less)
+  pub batches_go_on : (first : ℕ) (specs : List KeySpecValue) → GoesOnWith first specs old → GoesOnWith first specs new
+  batches_go_on first specs on =
+      let its : does.work ≡ on.work = the_work old.work does.work on.work does.runs on.runs in
+      let batches : List IndexBatch = does.applied.batches in
+      let many_old = sym (length-map batches (λ (b : IndexBatch). b.index)) ∙ ap length does.applied.indexes_are in
+      let many_new = sym (length-map batches (λ (b : IndexBatch). b.new)) ∙ ap length does.applied.new_are in
+      record {
+        work = record does.work { indexes = does.indexes };
+        runs = ap (λ (b : BuildingValue). b.work) does.left;
+        specs_are = ap (λ (w : WorkValue). w.specs) its ∙ on.specs_are;
+        few = on.few;
+        many = sym many_new ∙ many_old ∙ ap (λ (w : WorkValue). length w.indexes) its ∙ on.many;
+        fine = ap (λ (w : WorkValue). w.spoiled) its ∙ on.fine;
+        loaded = λ k index less at.
+            let there = ap (λ (is : List IndexValue). slice_get is k) does.applied.new_are ∙ at in
+            let it = at_map (λ (b : IndexBatch). b.new) batches k index there in
+            let batch = all_at IsApplied batches k it.0 does.applied.each it.1 in
+            subst (λ (i : IndexValue). is_some i.built ≡ true) it.2 (is_in_order (entries_of it.0) it.0.index (length (entries_of it.0)) it.0.new batch);
+      }
+
+pub batches_stopped_stakes : (old : BuildingValue) (fault : Fault) (new : BuildingValue) → BatchesStopped old fault new → stakes_beside new ≡ stakes_beside old
+batches_stopped_stakes old fault new stopped = ap stakes_beside stopped.left

@@ -198,17 +198,23 @@ pub switched_stakes :
     → stakes_beside new ≡ stakes_beside building
 switched_stakes live new_live building new told does = let on = on_build live.state.build _ does in ap (λ (s : CoreState). s.spools.stakes) on.1.2
 
--- what a refused switch leaves of the log and of the stakes
+-- what a refused switch leaves of the log, of the ready indexes and of the stakes
 pub record IsLeftSo (live new_live : LiveValue) (building new : BuildingValue) : Type 0 where
   pub log : new_live.state.heap.log ≡ live.state.heap.log
+  pub ready : new_live.state.ready ≡ live.state.ready
   pub stakes : stakes_beside new ≡ stakes_beside building
 
 left_looked : (live new_live : LiveValue) (building new : BuildingValue) → core_state new_live new ≡ core_state live building → IsLeftSo live new_live building new
-left_looked live new_live building new same = record { log = same_log live new_live building new same; stakes = same_beside live new_live building new same }
+left_looked live new_live building new same = record {
+  log = same_log live new_live building new same;
+  ready = ap (λ (s : CoreState). s.live.ready) same;
+  stakes = same_beside live new_live building new same;
+}
 
 only_looked : (live new_live : LiveValue) (building new : BuildingValue) → IsOnlyLookedAt live building new_live new → IsLeftSo live new_live building new
 only_looked live new_live building new looked = record {
   log = ap (λ (s : LiveState). s.heap.log) looked.state;
+  ready = ap (λ (s : LiveState). s.ready) looked.state;
   stakes = ap₂ (λ (home lent : List SpoolValue). stakes_of (home ++ lent)) (ap (λ (b : BuildingValue). b.spools) looked.rest)
       (lent_looked building.workers new.workers looked.pages.same);
 }
@@ -220,7 +226,11 @@ switch_left live new_live building new fault (inr refused) = elim refused.refuse
   | inl cause ↦ left_looked live new_live building new cause.1
   | inr want ↦
       let on = on_build live.state.build _ want.2 in
-      record { log = ap (λ (s : CoreState). s.live.heap.log) on.1.3; stakes = ap (λ (s : CoreState). s.spools.stakes) on.1.3 }
+      record {
+        log = ap (λ (s : CoreState). s.live.heap.log) on.1.3;
+        ready = ap (λ (s : CoreState). s.live.ready) on.1.3;
+        stakes = ap (λ (s : CoreState). s.spools.stakes) on.1.3;
+      }
 ]
 
 -- there is work where a build runs, and it is that build's

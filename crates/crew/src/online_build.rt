@@ -1,10 +1,9 @@
 //! A build from its start to its switch.
-ghost use Rattle.std.specs.Prelude.{◌≡◌, ◌≢◌, ◌<◌, ◌≤◌, ℕ, ◌+◌, ◌-◌, ◌*◌, ◌^◌, min, [], All, length, map, None, Some, IfErr, IfOk, IfSome, OnErr, OnOk};
-ghost use Rattle.keybytes.specs.Keys.{KeySpecValue};
+ghost use Rattle.std.specs.Prelude.{◌≡◌, ◌≢◌, ℕ, [], All, length, map, IfErr, IfOk};
 ghost use Rattle.keybytes.specs.declared.fault.Fault.{Fault};
 ghost use Rattle.building.specs.Lent.{CanLend};
-ghost use Rattle.crew.specs.Reports.{EndsFor, HasUnique, IsOther, IsReport, lists_in};
-ghost use Rattle.crew.specs.Credits.{TakesMore};
+ghost use Rattle.crew.specs.Reports.{EndsFor, HasUnique, IsReport, lists_in};
+ghost use Rattle.crew.specs.Credits.{IsBounded};
 ghost use Rattle.crew.specs.Places.{GoesOnWith, HasPairsLeft, StillScans, stakes_beside};
 
 mod comes_back;
@@ -21,7 +20,7 @@ use crate::online_build::loading::load_all;
 use crate::online_build::scanning::scan_all;
 use crate::online_build::turns::catch_up;
 use crate::{Opened, Table};
-use builder_core::{Building, Ends, Plan};
+use builder_core::{Building, Ends, INDEXES_MAX, Plan};
 pub use gate::{Gate, Point};
 use keybytes::Fault;
 pub use report::{BuildFault, CaughtUp, Report};
@@ -32,10 +31,11 @@ use std::thread;
 use std::thread::Threads;
 
 /// Builds the plan's indexes by a thread for each worker, while sessions write. The workers copy pages under the lock and make their pairs outside
-/// of it; the pairs are then put in order. Then it catches up in turns, which feed and apply what was written meanwhile, until a switch can take the
-/// rest. Sessions have credit for half as many entries as the build takes: so it catches up however quickly they write, after at most `2 * n / 1025` turns
-/// where `n` entries waited at first, and never ends with [`Fault::Behind`]. Where busy transactions keep the switch waiting it is tried again, at
-/// most `tries` times of the plan together, and no other transaction begins until the build has decided or is given up.
+/// of it; the pairs are then put in order. Then it catches up in turns, which take what was written meanwhile and apply it by a thread for each
+/// index, until a switch can take the rest. Sessions have credit for half as many entries as it applied: so it catches up however quickly they
+/// write, after at most `2 * n / 1025` turns where `n` entries waited at first, and never ends with [`Fault::Behind`]. Where busy transactions keep
+/// the switch waiting it is tried again, at most `tries` times of the plan together, and no other transaction begins until the build has decided or
+/// is given up.
 ///
 /// A fault gives the build up: where it is [`Fault::Busy`], that of the last try, and of several workers' the lowest worker's. Where a thread can't be
 /// started, it is [`Fault::Memory`]. The ends of the rings and the spools come back in any case, the spools ended.
@@ -56,7 +56,7 @@ where
     G: Gate + Sync,
     R: Threads + Wait + Sync,
     ensures report { IfOk result.2 (λ report. IsReport T.opening plan.now.specs.items report.receipt report.verdicts (lists_in report.pairs)) }
-    ensures bounded { IfOk result.2 (λ report. 1025 * report.caught_up.turns ≤ 2 * report.caught_up.waited) }
+    ensures bounded { IfOk result.2 (λ report. IsBounded (length plan.now.specs.items) (length report.receipt) report.caught_up) }
     ensures not_empty { IfErr result.2 (λ fault. fault.0 ≡ Fault.SpoolNotEmpty
         → All (λ spool. (S.runs spool ≡ []) × (S.open_run spool ≡ [])) spools.items → ⊥) }
     ensures busy { IfErr result.2 (λ fault. (count : ℕ) → fault.0 ≡ Fault.Busy count → HasUnique plan.now.specs.items) }
@@ -88,7 +88,7 @@ where
     G: Gate + Sync,
     R: Threads + Wait + Sync,
     ensures report { IfOk result.1 (λ report. IsReport T.opening plan.now.specs.items report.receipt report.verdicts (lists_in report.pairs)) }
-    ensures bounded { IfOk result.1 (λ report. 1025 * report.caught_up.turns ≤ 2 * report.caught_up.waited) }
+    ensures bounded { IfOk result.1 (λ report. IsBounded (length plan.now.specs.items) (length report.receipt) report.caught_up) }
     ensures not_empty { IfErr result.1 (λ fault. fault ≡ Fault.SpoolNotEmpty → HasPairsLeft building) }
     ensures busy { IfErr result.1 (λ fault. (count : ℕ) → fault ≡ Fault.Busy count → HasUnique plan.now.specs.items) }
     ensures never_behind { IfErr result.1 (λ fault. (left : ℕ) → fault ≢ Fault.Behind left) }
@@ -101,10 +101,20 @@ where
     }
     let (building, told) = build_started(rt, alloc, table, plan, gate, building);
     if told.is_err() {
-        table.lock().lock(rt).abandon();
-        table.credit_given().notify_all();
+        give_up(rt, alloc, table);
     }
     (building, told)
+}
+
+/// Gives the build up. What its side-files have left is dropped once the lock is given up, where there is memory to take it along.
+fn give_up<T: Opened, R: Wait>(rt: &R, alloc: Global, table: &Table<T>) {
+    let mut waste = match Vec::with_capacity(alloc, INDEXES_MAX) {
+        Ok(waste) => waste,
+        Err(_) => Vec::new(alloc),
+    };
+    let mut held = table.lock().lock(rt);
+    held.abandon(&mut waste);
+    table.release(held);
 }
 
 /// A build that has started: its workers are lent to threads, and come back for the rest.
@@ -124,7 +134,7 @@ where
     requires lendable { CanLend building }
     requires goes_on { GoesOnWith 0 plan.now.specs.items building }
     ensures report { IfOk result.1 (λ report. IsReport T.opening plan.now.specs.items report.receipt report.verdicts (lists_in report.pairs)) }
-    ensures bounded { IfOk result.1 (λ report. 1025 * report.caught_up.turns ≤ 2 * report.caught_up.waited) }
+    ensures bounded { IfOk result.1 (λ report. IsBounded (length plan.now.specs.items) (length report.receipt) report.caught_up) }
     ensures ends { IfErr result.1 (EndsFor plan.now.specs.items) }
     ensures stakes { stakes_beside result.0 ≡ stakes_beside building }
 {
@@ -138,7 +148,7 @@ where
 }
 
 /// The rest of a build whose pages were scanned: the loads of its indexes are lent to threads, and come back for the turns.
-fn finish<S: Spool + Send, T: Opened, G: Gate, R: Threads + Wait + Sync>(
+fn finish<S, T, G, R>(
     rt: &R,
     alloc: Global,
     table: &Table<T>,
@@ -146,10 +156,15 @@ fn finish<S: Spool + Send, T: Opened, G: Gate, R: Threads + Wait + Sync>(
     gate: &G,
     building: Building<S, T>,
 ) -> (Building<S, T>, Result<Report<T>, Fault>)
+where
+    S: Spool + Send,
+    T: Opened + Send + Sync,
+    G: Gate,
+    R: Threads + Wait + Sync,
     requires goes_on { GoesOnWith 0 plan.now.specs.items building }
     requires scans { StillScans building }
     ensures report { IfOk result.1 (λ report. IsReport T.opening plan.now.specs.items report.receipt report.verdicts (lists_in report.pairs)) }
-    ensures bounded { IfOk result.1 (λ report. 1025 * report.caught_up.turns ≤ 2 * report.caught_up.waited) }
+    ensures bounded { IfOk result.1 (λ report. IsBounded (length plan.now.specs.items) (length report.receipt) report.caught_up) }
     ensures ends { IfErr result.1 (EndsFor plan.now.specs.items) }
     ensures stakes { stakes_beside result.0 ≡ stakes_beside building }
 {
@@ -167,7 +182,7 @@ fn finish<S: Spool + Send, T: Opened, G: Gate, R: Threads + Wait + Sync>(
 }
 
 /// Tries the switch until it decides, or the last try has to wait as well. Other threads run in between.
-fn take_turns<S: Spool, T: Opened, G: Gate, R: Wait>(
+fn take_turns<S, T, G, R>(
     rt: &R,
     alloc: Global,
     table: &Table<T>,
@@ -175,9 +190,14 @@ fn take_turns<S: Spool, T: Opened, G: Gate, R: Wait>(
     gate: &G,
     building: &mut Building<S, T>,
 ) -> Result<Report<T>, Fault>
+where
+    S: Spool,
+    T: Opened + Send + Sync,
+    G: Gate,
+    R: Threads + Wait + Sync,
     requires { GoesOnWith (length plan.now.specs.items) plan.now.specs.items building.old }
     ensures report { IfOk result (λ report. IsReport T.opening plan.now.specs.items report.receipt report.verdicts (lists_in report.pairs)) }
-    ensures bounded { IfOk result (λ report. 1025 * report.caught_up.turns ≤ 2 * report.caught_up.waited) }
+    ensures bounded { IfOk result (λ report. IsBounded (length plan.now.specs.items) (length report.receipt) report.caught_up) }
     ensures ends { IfErr result (EndsFor plan.now.specs.items) }
     ensures stakes { stakes_beside building.new ≡ stakes_beside building.old }
 {
@@ -191,7 +211,7 @@ fn take_turns<S: Spool, T: Opened, G: Gate, R: Wait>(
 }
 
 /// One try: sessions need no credit while the gate is asked; then the build catches up, and the switch is tried.
-fn try_switch<S: Spool, T: Opened, G: Gate, R: Wait>(
+fn try_switch<S, T, G, R>(
     rt: &R,
     alloc: Global,
     table: &Table<T>,
@@ -200,19 +220,24 @@ fn try_switch<S: Spool, T: Opened, G: Gate, R: Wait>(
     building: &mut Building<S, T>,
     n: u32,
 ) -> Result<Report<T>, Fault>
+where
+    S: Spool,
+    T: Opened + Send + Sync,
+    G: Gate,
+    R: Threads + Wait + Sync,
     requires { GoesOnWith (length plan.now.specs.items) plan.now.specs.items building.old }
     ensures report { IfOk result (λ report. IsReport T.opening plan.now.specs.items report.receipt report.verdicts (lists_in report.pairs)) }
-    ensures bounded { IfOk result (λ report. 1025 * report.caught_up.turns ≤ 2 * report.caught_up.waited) }
+    ensures bounded { IfOk result (λ report. IsBounded (length plan.now.specs.items) (length report.receipt) report.caught_up) }
     ensures goes_on { IfErr result (λ fault. (count : ℕ) → fault ≡ Fault.Busy count
         → GoesOnWith (length plan.now.specs.items) plan.now.specs.items building.new) }
     ensures ends { IfErr result (EndsFor plan.now.specs.items) }
     ensures stakes { stakes_beside building.new ≡ stakes_beside building.old }
 {
-    table.lock().lock(rt).note_try(n);
-    table.credit_given().notify_all();
+    let mut held = table.lock().lock(rt);
+    held.note_try(n);
+    table.release(held);
     gate.at(Point::Try { n });
+    table.forget_applied();
     let credit = table.lock().lock(rt).give_credit();
-    let told = catch_up(rt, alloc, table, plan, building, credit);
-    table.credit_given().notify_all();
-    told
+    catch_up(rt, alloc, table, plan, building, credit)
 }

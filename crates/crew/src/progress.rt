@@ -32,7 +32,7 @@ pub struct Progress {
     pub tries: u32,
     /// How many open transactions have a write that stands. The switch of a unique index waits for them.
     pub busy: usize,
-    /// How many sessions wait until the build has taken more of what was written; those that were woken and don't have the lock yet are counted.
+    /// How many sessions wait until the build has applied more of what was written; those that were woken and don't have the lock yet are counted.
     pub waiting: usize,
     ghost within: { scanned ≤ pages },
 }

@@ -1,10 +1,10 @@
 ghost use Rattle.std.specs.Prelude.{◌≡◌, ◌+◌, ◌≤◌, ◌++◌, [], length, take, IsOk, IfOk, IfErr, OnOk, OnErr};
 ghost use Rattle.std.specs.Ordering.{nat_cmp};
 ghost use Rattle.std.specs.Cmp.Lexicographic.{slice_cmp};
+ghost use Rattle.byteorder.specs.Endian.{big_number};
 ghost use Rattle.keybytes.specs.Heads.{AreBytes};
 
 use crate::{Fault, KEY_COLUMNS_MAX, TEXT_MAX};
-use byteorder::{BigEndian, ByteOrder};
 use smallvec::SmallVec;
 use std::alloc::Global;
 use std::cmp::Ordering;
@@ -165,11 +165,23 @@ fn compare_long(bytes: &[u8], others: &[u8]) -> Ordering
     requires other_bytes { AreBytes others.now }
     ensures { result ≡ slice_cmp nat_cmp bytes.now others.now }
 {
-    let number = BigEndian::read_u64(bytes);
-    let other = BigEndian::read_u64(others);
+    let number = head(bytes);
+    let other = head(others);
     if number != other {
         return number.cmp(&other);
     }
     let (rest, other_rest) = (&bytes[HEAD..], &others[HEAD..]);
     rest.cmp(&other_rest)
+}
+
+/// The number that the first eight bytes make, the highest first.
+#[inline]
+fn head(bytes: &[u8]) -> u64
+    requires { 8 ≤ length bytes.now }
+    ensures { result ≡ big_number 8 bytes.now }
+{
+    let Some((head, _)) = bytes.split_first_chunk::<HEAD>() else {
+        unreachable!()
+    };
+    u64::from_be_bytes(*head)
 }

@@ -6,14 +6,32 @@ mod cases;
 use crate::desk::{Desk, first_other};
 use btree::Tree;
 pub use cases::CASES;
-use catch_up::{Built, apply, apply_batch};
+use catch_up::{Built, Pace, apply, apply_batch};
 use chunk_list::{CHUNK, ChunkQueue};
 use keybytes::{Fault, Key, Rid};
 use side_file::{Entry, EntryEnd, Op, SideFile};
 use std::alloc::Global;
+use std::sync::atomic::{AtomicUsize, Ordering};
 
 /// An entry in short: the number of its build, what it does, the byte of its key and the page of its RID.
 pub type Short = (u64, Op, u8, u32);
+
+/// Counts what a batch tells of itself.
+struct Counted {
+    count: AtomicUsize,
+}
+
+impl Drop for Counted {
+    fn drop(self) {
+        let Counted { count: _ } = self;
+    }
+}
+
+impl Pace for Counted {
+    fn applied(&self, count: usize) {
+        self.count.fetch_add(count, Ordering::Relaxed);
+    }
+}
 
 /// A call, with what it is to answer.
 pub enum Step {
@@ -29,8 +47,8 @@ pub enum Step {
     Take(&'static [Short]),
     /// Applies at most so many, and that many are taken.
     Apply(usize, usize),
-    /// Applies all that wait as one batch, and that many are taken.
-    ApplyBatch(usize),
+    /// Applies all that wait as one batch: that many are taken, and that many of them are told to be applied.
+    ApplyBatch(usize, usize),
     /// The pages of the pairs, in order.
     Pages(&'static [u32]),
 }
@@ -102,7 +120,7 @@ impl Desk for Bench {
             Step::Counts(fed, left, waiting) => Ok(self.counts() == (fed, left, waiting)),
             Step::Take(entries) => self.takes_all(entries),
             Step::Apply(most, taken) => Ok(self.apply(most)? == taken),
-            Step::ApplyBatch(taken) => Ok(self.apply_batch()? == taken),
+            Step::ApplyBatch(taken, told) => Ok(self.apply_batch()? == (taken, told)),
             Step::Pages(pages) => Ok(has_pages(self.built.tree(), pages)),
         }
     }
@@ -166,8 +184,12 @@ impl Bench {
         Ok(self.side.feed_batch(most, batch))
     }
 
-    fn apply_batch(&mut self) -> Result<usize, Fault> {
+    fn apply_batch(&mut self) -> Result<(usize, usize), Fault> {
         self.end.look();
-        apply_batch(self.alloc, &mut self.built, &mut self.end)
+        let told = Counted {
+            count: AtomicUsize::new(0),
+        };
+        let taken = apply_batch(self.alloc, &mut self.built, &mut self.end, &told)?;
+        Ok((taken, told.count.load(Ordering::Relaxed)))
     }
 }

@@ -150,6 +150,6 @@ module _
         let whole : TakesMost most (left_of_index b new_live.state.heap.log index) count = fed.whole (omega (arith, sees.sees.free, seen, empty, places)) in
         subst (λ (s : CoreState). FeedsBatch index most s count (core_state new mid)) same
         (subst (λ (o : Option BuildState). OnBuild o (λ x. (count ≤ left_of_index x new_live.state.heap.log index)
-        × TakesMost most (left_of_index x new_live.state.heap.log index) count
+        × TakesMost most (left_of_index x new_live.state.heap.log index) count × (count ≤ most)
         × (core_state new mid ≡ record (core_state new_live mid) { live = record new_live.state { build = Some (after_feed x index count) } }))) (sym fed.runs)
-        (fed.few, whole, ap (λ (s : LiveState). record (core_state new_live mid) { live = s }) fed.left))
+        (fed.few, whole, fed.within, ap (λ (s : LiveState). record (core_state new_live mid) { live = s }) fed.left))

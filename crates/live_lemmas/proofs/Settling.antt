@@ -1,4 +1,4 @@
--- How a build catches up beside its table: what was fed is applied, and what is left is fed.
+-- How a build catches up beside its table: once all that was fed is applied, what is left is fed.
 use Rattle.std.proofs.Common.{◌≡◌, ◌⊎◌, ℕ, zero, suc, ◌+◌, ◌-◌, ◌*◌, ◌<◌, ◌≤◌, List, length, set, get_or, drop, Option, Some, None, refl, sym, ap, ◌∙◌, subst, inl, inr, arith}
 use Rattle.std.specs.Prelude.{◌==◌, IsSome, IfSome}
 use Rattle.std.specs.List.{slice_get}
@@ -12,78 +12,27 @@ use Rattle.side_file.specs.Entries.{entry_of}
 use Rattle.side_file.specs.declared.entry.Entry.{Entry}
 use Rattle.visibility.specs.SideEntries.{SideEntry}
 use Rattle.table_scan.specs.SideFiles.{AreEntriesLeft, side_refusal}
-use Rattle.build_events.specs.BuildSteps.{OnBuild, Applies, AppliesSome, MayTakeMemory, after_apply, after_feed, next_applied}
+use Rattle.build_events.specs.BuildSteps.{OnBuild, after_feed}
 use Rattle.build_events.specs.CoreState.{BuildState, CoreState, IndexState, scanning_of}
 use Rattle.build_events.specs.SideEntries.{side_entries}
 use Rattle.build_events.specs.Workers.{all_entries, all_unapplied, all_unfed, fed_to, in_ring, index_at, unapplied, unfed, unfed_before}
 use Rattle.building.specs.BuildingValue.{BuildingValue}
 use Rattle.live_lemmas.specs.Builds.{LiveValue, core_state}
 use Rattle.live_lemmas.specs.CatchingUp.{left_at, left_of, unapplied_at}
-use Rattle.live_lemmas.specs.Settling.{FeedsBatch, IsSettled, OnlyFeeds, Settles, entries_waiting, left_of_index, ring_at, ring_of, waiting_in}
+use Rattle.live_lemmas.specs.Settling.{FeedsBatch, IsSettled, OnlyFeeds, entries_waiting, left_of_index, ring_at, ring_of, waiting_in}
 use Rattle.live_lemmas.proofs.ApplyCauses.{inside_of}
-use Rattle.live_lemmas.proofs.CatchingUp.{AllAreFurther}
 use Rattle.live_lemmas.proofs.LeftOver.{all_left, left_before}
 use Rattle.page_workers.proofs.Places.{there_is}
 
--- Nothing but what was applied has changed.
-
-settles_by : (s new : CoreState) (indexes : List IndexState) → new ≡ record s { work = record s.work { indexes = indexes } } → Settles s new
-settles_by s new indexes is =
-    is ∙ ap (λ (l : List IndexState). record s { work = record s.work { indexes = l } }) (sym (ap (λ (n : CoreState). n.work.indexes) is))
-
-pub settles_twice : (s mid new : CoreState) → Settles s mid → Settles mid new → Settles s new
-settles_twice s mid new first second =
-    second ∙ ap (λ (m : CoreState). record m { work = record m.work { indexes = new.work.indexes } }) first
-
-pub settles_applied : (index most : ℕ) (s new : CoreState) (count : ℕ) → Applies index most s count new → Settles s new
-settles_applied index most s new count applies = by_build s.live.build applies where
-  by_build : (o : Option BuildState) → OnBuild o (λ b. (count ≡ next_applied b s.work index most) × (new ≡ record s { work = after_apply s.work index count })) → Settles s new
-  by_build None applies = absurd applies
-  by_build (Some b) applies = settles_by s new (after_apply s.work index count).indexes applies.1
-
-pub settles_some : (index most : ℕ) (s new : CoreState) → AppliesSome index most s new → Settles s new
-settles_some index most s new some = by_build s.live.build some where
-  by_build :
-      (o : Option BuildState) → OnBuild o (λ b.
-      (count : ℕ) × (count < next_applied b s.work index most) × (new ≡ record s { work = after_apply s.work index count })
-      × MayTakeMemory b s.live.heap.log index ((index_at s.work.indexes index).applied + count)) → Settles s new
-  by_build None some = absurd some
-  by_build (Some b) some = settles_by s new (after_apply s.work index some.0).indexes some.2
-
--- the table's own state is as it was
-pub state_settled :
-    (live new_live : LiveValue) (building new : BuildingValue) → Settles (core_state live building) (core_state new_live new) → new_live.state ≡ live.state
-state_settled live new_live building new settles = ap (λ (s : CoreState). s.live) settles
-
 -- What waits in the rings.
-
--- as much waits for the others as before
-pub ring_other :
-    (index most : ℕ) (s new : CoreState) (count k : ℕ) → (k ≡ index → ⊥) → Applies index most s count new → ring_at k new ≡ ring_at k s
-ring_other index most s new count k other applies = by_build s.live.build applies where
-  after : CoreState
-  after = record s { work = after_apply s.work index count }
-
-  same : (o : Option BuildState) → ring_of o after k ≡ ring_of o s k
-  same None = refl
-  same (Some b) = ap (λ (i : IndexState). fed_to b k - i.applied) (get_or-set_other s.work.indexes index k _ _ other)
-
-  by_build :
-      (o : Option BuildState) → OnBuild o (λ b. (count ≡ next_applied b s.work index most) × (new ≡ record s { work = after_apply s.work index count }))
-      → ring_at k new ≡ ring_at k s
-  by_build None applies = absurd applies
-  by_build (Some b) applies = ap (ring_at k) applies.1 ∙ same s.live.build
 
 -- once nothing waits for each index, all are settled
 pub all_settled :
-    (s new : CoreState) (all : AllAreFurther s new) (b : BuildState) → s.live.build ≡ Some b → (count : ℕ) → length b.specs ≤ count
-    → ((k : ℕ) → k < count → ring_at k new ≡ 0) → IsSettled new
-all_settled s new all b runs count far none =
-    let now : BuildState = record all.build { fed = all.fed } in
-    let same = ap (λ (x : BuildState). length x.specs) (same_Some all.build b (sym all.runs ∙ runs)) in
-    let new_runs : new.live.build ≡ Some now = ap (λ (n : CoreState). n.live.build) all.new_is in
-    subst (λ (o : Option BuildState). OnBuild o (λ x. (k : ℕ) → k < length x.specs → in_ring x new.work k ≡ 0)) (sym new_runs)
-    (λ k less. sym (ap (λ (o : Option BuildState). ring_of o new k) new_runs) ∙ none k (omega (arith, less, far, same)))
+    (s : CoreState) (b : BuildState) → s.live.build ≡ Some b → (count : ℕ) → length b.specs ≤ count
+    → ((k : ℕ) → k < count → ring_at k s ≡ 0) → IsSettled s
+all_settled s b runs count far none =
+    subst (λ (o : Option BuildState). OnBuild o (λ x. (k : ℕ) → k < length x.specs → in_ring x s.work k ≡ 0)) (sym runs)
+    (λ k less. sym (ap (λ (o : Option BuildState). ring_of o s k) runs) ∙ none k (omega (arith, less, far)))
 
 -- and of a settled one nothing waits
 pub ring_settled : (s : CoreState) (b : BuildState) → s.live.build ≡ Some b → IsSettled s → (k : ℕ) → k < length b.specs → in_ring b s.work k ≡ 0
@@ -151,6 +100,7 @@ pub record IsBeingFed (most index : ℕ) (s new : CoreState) : Type 0 where
   pub counted : all_unfed (record build { fed = list }) s.live.heap.log + fed ≡ all_unfed build s.live.heap.log
   -- all that was left of the first was fed, or the most less a chunk
   pub many_fed : (most < fed + 1024) ⊎ (fed ≡ unfed_before index build s.live.heap.log)
+  pub within : fed ≤ index * most
 
 pub not_fed_yet : (most : ℕ) (s : CoreState) (b : BuildState) → s.live.build ≡ Some b → length b.fed ≡ length b.specs → IsBeingFed most 0 s s
 not_fed_yet most s b runs many = record {
@@ -163,6 +113,7 @@ not_fed_yet most s b runs many = record {
   fed = 0;
   counted = omega arith;
   many_fed = inr refl;
+  within = omega arith;
 }
 
 -- one index more was fed
@@ -187,7 +138,7 @@ module _ (most index : ℕ) (s mid : CoreState) (being : IsBeingFed most index s
 
   module _ (count : ℕ) (new : CoreState) (feeds : FeedsBatch index most mid count new) where
     fed_so :
-        (count ≤ left_of_index now its_log index) × TakesMost most (left_of_index now its_log index) count
+        (count ≤ left_of_index now its_log index) × TakesMost most (left_of_index now its_log index) count × (count ≤ most)
         × (new ≡ record s { live = record s.live { build = Some (after_feed now index count) } })
     fed_so = subst (λ (m : CoreState). FeedsBatch index most m count new) being.new_is feeds
 
@@ -218,17 +169,20 @@ module _ (most index : ℕ) (s mid : CoreState) (being : IsBeingFed most index s
     fed_one_more =
         let here : index < length being.list = omega (arith, less, being.many) in
         let sum = before_fed now its_log index count (length being.build.specs) less here fed_so.0 in
+        let next : index + 1 ≡ suc index = omega arith in
+        let one_more : (index + 1) * most ≡ index * most + most = ap (λ n. n * most) next ∙ omega arith in
         record {
           build = being.build;
           runs = being.runs;
           list = set being.list index (fed_to now index + count);
           many = length-set being.list index (fed_to now index + count) ∙ being.many;
-          new_is = fed_so.2;
+          new_is = fed_so.3;
           others = λ k more.
               get_or-set_other being.list index k (fed_to now index + count) 0 (λ same. omega (arith, same, more)) ∙ being.others k (omega (arith, more));
           fed = being.fed + count;
           counted = omega (arith, sum, being.counted);
           many_fed = one_more_fed;
+          within = omega (arith, one_more, fed_so.2, being.within);
         }
 
 -- all were fed
@@ -252,6 +206,11 @@ module _ (most : ℕ) (live new_live : LiveValue) (building new : BuildingValue)
     | inl many ↦ inl many
     | inr each ↦ inr (each ∙ sym (ap (λ n. unfed_before n being.build live.state.heap.log) all) ∙ sym waiting_was)
   ]
+
+  pub were_within : length being.build.specs ≡ index → OnBuild live.state.build (λ b. being.fed ≤ length b.specs * most)
+  were_within all =
+      subst (λ (o : Option BuildState). OnBuild o (λ b. being.fed ≤ length b.specs * most)) (sym being.runs)
+      (subst (λ n. being.fed ≤ n * most) (sym all) being.within)
 
 -- What a settled build has left is what isn't fed.
 

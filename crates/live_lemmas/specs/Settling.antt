@@ -1,4 +1,4 @@
--- How a build catches up beside its table: what was fed is applied, and then what is left is fed.
+-- How a build catches up beside its table: once all that was fed is applied, what is left is fed.
 use Rattle.std.specs.Prelude.{◌≡◌, ℕ, ◌+◌, ◌<◌, ◌≤◌, List, [], length, Option, Some, None}
 use Rattle.std.specs.List.{slice_get}
 use Rattle.chunk_list.specs.ChunkValue.{ChunkValue}
@@ -32,11 +32,7 @@ ring_at index s = ring_of s.live.build s index
 abbrev pub IsSettled : CoreState → Type 0
 IsSettled s = OnBuild s.live.build (λ b. (index : ℕ) → index < length b.specs → in_ring b s.work index ≡ 0)
 
--- nothing but what was applied has changed
-abbrev pub Settles : CoreState → CoreState → Type 0
-Settles s new = new ≡ record s { work = record s.work { indexes = new.work.indexes } }
-
--- nothing but what was fed has
+-- nothing but what was fed has changed
 pub record OnlyFeeds (s new : CoreState) : Type 0 where
   pub build : BuildState
   pub runs : s.live.build ≡ Some build
@@ -55,7 +51,7 @@ left_of_index b log index = unfed b log index (slice_get b.specs index)
 -- the first entries that an index had left were fed as a batch: all of them, or whole chunks, at most so many together
 abbrev pub FeedsBatch : ℕ → ℕ → CoreState → ℕ → CoreState → Type 0
 FeedsBatch index most s count new = OnBuild s.live.build (λ b. (count ≤ left_of_index b s.live.heap.log index)
-    × TakesMost most (left_of_index b s.live.heap.log index) count
+    × TakesMost most (left_of_index b s.live.heap.log index) count × (count ≤ most)
     × (new ≡ record s { live = record s.live { build = Some (after_feed b index count) } }))
 
 -- so they were, by the table alone; none where its end of the ring knows no place
@@ -63,6 +59,7 @@ pub record HasFedBatch (index most : ℕ) (live : LiveValue) (count : ℕ) (new 
   pub build : BuildState
   pub runs : live.state.build ≡ Some build
   pub few : count ≤ left_of_index build live.state.heap.log index
+  pub within : count ≤ most
   pub put : PutEnd Entry
   pub there : slice_get live.sides index ≡ Some put
   pub whole : 0 < put.free → TakesMost most (left_of_index build live.state.heap.log index) count

@@ -31,7 +31,7 @@ mod writes;
 use crate::rest::at_rest;
 use crate::unnamed_live::UnnamedLive;
 use crate::{Pair, TableRings};
-use chunk_list::QueueItems;
+use chunk_list::{ChunkQueue, QueueItems};
 use heap_table::Heap;
 use keybytes::{Fault, KeySpec, Rid, Row};
 use page_workers::PagePutter;
@@ -39,7 +39,7 @@ use ready_indexes::ReadyIndexes;
 use side_file::{Entry, SideFile};
 use std::alloc::Global;
 use std::marker::{Model, PhantomData};
-use table_scan::{TableScan, reset_all};
+use table_scan::{TableScan, reset_all, take_all_left};
 
 /// A table, its ready indexes, each of which has the pairs of the rows that stand and that it takes, which pages the running build copied, and the
 /// ends of the rings that the table puts into: all that a lock has to keep once threads share it. What stands beside it is a
@@ -220,9 +220,19 @@ impl<T: TableRings> Live<T> {
         ensures state { self.new ≡ record self.old { state = abandoned self.old.state } }
         ensures none { self.new.state.build ≡ None }
     {
+        let mut waste = Vec::new(self.alloc);
+        self.give_up_into(&mut waste);
+    }
+
+    /// The same with room for what its side-files have left: it can be dropped once no lock is held.
+    pub fn give_up_into(&mut self, waste: &mut Vec<ChunkQueue<Entry>>)
+        ensures state { self.new ≡ record self.old { state = abandoned self.old.state } }
+        ensures none { self.new.state.build ≡ None }
+    {
         if self.build.is_none() {
             return;
         }
+        take_all_left(self.alloc, &mut self.sides, waste);
         self.heap.set_fence(false);
         self.build = None;
         reset_all(&mut self.sides);

@@ -12,6 +12,7 @@ use keybytes::Fault;
 use rtrb::{Producer, RingBuffer};
 use std::alloc::Global;
 use std::marker::Model;
+use std::mem::replace;
 
 /// How many places a ring has, and so the most entries that one call feeds one by one.
 pub const RING_ENTRIES: usize = 256;
@@ -101,6 +102,14 @@ impl SideFile {
     {
         self.left.clear();
         self.fed = 0;
+    }
+
+    /// Takes out all that isn't fed, so that it can be dropped where nobody waits for it. No room is left.
+    pub fn take_left(&mut self, alloc: Global) -> ChunkQueue<Entry>
+        ensures taken { result.items ≡ self.old.left }
+        ensures rest { self.new ≡ record self.old { left = []; room = 0 } }
+    {
+        replace(&mut self.left, ChunkQueue::new(alloc))
     }
 
     /// How many entries are in the ring, with its other end at hand. That end then knows them, and this one each free place.

@@ -18,6 +18,19 @@ abbrev pub AreEmptied : ℕ → List SideFileValue → List (TakeEnd Entry) → 
 AreEmptied count sides ends =
     (k : ℕ) (side : SideFileValue) (end : TakeEnd Entry) → k < count → slice_get sides k ≡ Some side → slice_get ends k ≡ Some end → IsEmptied side end
 
+-- of the first so many side-files nothing is left
+abbrev pub AreTaken : ℕ → List SideFileValue → Type 0
+AreTaken count sides = (k : ℕ) (side : SideFileValue) → k < count → slice_get sides k ≡ Some side → side.left ≡ []
+
+pub more_taken : (count : ℕ) (sides : List SideFileValue) (side : SideFileValue) → AreTaken count sides → side.left ≡ [] → AreTaken (count + 1) (set sides count side)
+more_taken count sides side are is = λ k s less at. elim (at_set sides count side k s at) [
+  | inl here ↦ rw here.1 is
+  | inr other ↦ are k s (omega (arith, less, other.0)) other.1
+]
+
+pub all_taken : (sides : List SideFileValue) → AreTaken (length sides) sides → All (λ side. side.left ≡ []) sides
+all_taken sides are = all_from (λ (side : SideFileValue). side.left ≡ []) sides (λ k side at. are k side (below sides k side at) at)
+
 -- of the first so many side-files nothing is left, and none was fed
 abbrev pub AreForgotten : ℕ → List SideFileValue → Type 0
 AreForgotten count sides = (k : ℕ) (side : SideFileValue) → k < count → slice_get sides k ≡ Some side → (side.left ≡ []) × (side.fed ≡ [])

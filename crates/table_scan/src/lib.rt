@@ -11,5 +11,5 @@ mod side_files;
 mod table_scan;
 
 pub use notes::note;
-pub use side_files::{empty_all, reset_all};
+pub use side_files::{empty_all, reset_all, take_all_left};
 pub use table_scan::TableScan;

@@ -1,10 +1,12 @@
-//! The side-files of a build together, one for each index: their entries are dropped.
-ghost use Rattle.std.specs.Prelude.{◌≡◌, [], All, map};
+//! The side-files of a build together, one for each index: their entries are taken out, and dropped.
+ghost use Rattle.std.specs.Prelude.{◌≡◌, ◌+◌, ◌<◌, ◌≤◌, [], All, length, map, vec_len, vec_capacity};
 ghost use Rattle.std.specs.List.{AllZip};
 ghost use Rattle.side_file.specs.Ends.{PutEndLooked};
 ghost use Rattle.table_scan.specs.SideFiles.{side_rings, taken_rings, drained_end, put_ends};
 
-use side_file::{EntryEnd, SideFile};
+use chunk_list::ChunkQueue;
+use side_file::{Entry, EntryEnd, SideFile};
+use std::alloc::Global;
 
 /// Forgets all entries of each side-file, those that were fed too; what waits in a ring stays there.
 pub fn reset_all(sides: &mut Vec<SideFile>)
@@ -14,6 +16,28 @@ pub fn reset_all(sides: &mut Vec<SideFile>)
 {
     for index in 0..sides.len() {
         sides[index].reset();
+    }
+}
+
+/// Takes out what isn't fed of each side-file, as far as there is room for it, so that it can be dropped where nobody waits for it.
+pub fn take_all_left(alloc: Global, sides: &mut Vec<SideFile>, waste: &mut Vec<ChunkQueue<Entry>>)
+    ensures left { vec_len waste.old + length sides.old.items ≤ vec_capacity waste.old → All (λ side. side.left ≡ []) sides.new.items }
+    ensures ends { put_ends sides.new.items ≡ put_ends sides.old.items }
+{
+    for index in 0..sides.len() {
+        take_left(alloc, &mut sides[index], waste);
+    }
+}
+
+/// The same of one of them.
+fn take_left(alloc: Global, side: &mut SideFile, waste: &mut Vec<ChunkQueue<Entry>>)
+    ensures left { vec_len waste.old < vec_capacity waste.old → side.new.left ≡ [] }
+    ensures end { side.new.end ≡ side.old.end }
+    ensures count { vec_len waste.new ≤ vec_len waste.old + 1 }
+    ensures room { vec_capacity waste.new ≡ vec_capacity waste.old }
+{
+    if waste.len() < waste.capacity() {
+        waste.push_reserved(side.take_left(alloc));
     }
 }
 

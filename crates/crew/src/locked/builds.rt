@@ -1,12 +1,12 @@
 //! The steps of a build that are done under the lock.
-ghost use Rattle.std.specs.Prelude.{◌≡◌, ◌≢◌, ◌⊎◌, ℕ, ◌<◌, ◌≤◌, ◌+◌, ◌*◌, ◌^◌, List, length, map, take, drop, Some, None, IfOk, IfErr, IfSome, OnErr, OnOk, true, false, All};
+ghost use Rattle.std.specs.Prelude.{◌≡◌, ◌≢◌, ℕ, ◌<◌, ◌≤◌, ◌+◌, ◌*◌, List, length, map, drop, Some, None, IfOk, IfErr, IfSome, IsSome, OnErr, OnOk, All};
 ghost use Rattle.keybytes.specs.Keys.{KeySpecValue};
 ghost use Rattle.keybytes.specs.declared.fault.Fault.{Fault};
 ghost use Rattle.building.specs.IndexLoads.{CanLoadAll};
 ghost use Rattle.building.specs.Lent.{CanLend};
 ghost use Rattle.ready_indexes.specs.Following.{indexes_of};
 ghost use Rattle.live_lemmas.specs.Settling.{HasRoomForBatch, waiting_in};
-ghost use Rattle.crew.specs.Credits.{IsSettledBeside, indexes_of_build};
+ghost use Rattle.crew.specs.Credits.{IsBounded, IsKnown, IsSettledBeside, TakesMore, caught_up_by, indexes_of_build};
 ghost use Rattle.crew.specs.Reports.{EndsFor, IsOther, IsReport, lists_in};
 ghost use Rattle.crew.specs.Places.{GoesOnWith, HasPairsLeft, StillScans, stakes_beside};
 
@@ -33,6 +33,7 @@ impl<T: Opened> Locked<T> {
         ensures not_empty { IfErr result (λ fault. fault ≡ Fault.SpoolNotEmpty → HasPairsLeft building.old) }
         ensures not_busy { IfErr result (λ fault. (count : ℕ) → fault ≢ Fault.Busy count) }
         ensures not_behind { IfErr result (λ fault. (left : ℕ) → fault ≢ Fault.Behind left) }
+        ensures credit { OnOk result (self.new.credit ≡ None) }
         ensures log { self.new.state.heap.log ≡ self.old.state.heap.log }
     {
         let number = self.live.start(plan, building)?;
@@ -49,6 +50,7 @@ impl<T: Opened> Locked<T> {
         image: PageImage,
     ) -> Result<u32, (PageImage, Fault)>
         ensures other { IfErr result (λ back. IsOther back.1) }
+        ensures credit { self.new.credit ≡ None }
         ensures log { self.new.state.heap.log ≡ self.old.state.heap.log }
     {
         self.credit = None;
@@ -63,6 +65,7 @@ impl<T: Opened> Locked<T> {
         ensures goes_on { OnOk result ((specs : List KeySpecValue) → GoesOnWith 0 specs building.old → GoesOnWith 0 specs building.new) }
         ensures stakes { stakes_beside building.new ≡ stakes_beside building.old }
         ensures other { IfErr result (λ fault. IfSome building.old.work (λ w. w.spoiled ≡ None → IsOther fault)) }
+        ensures credit { self.new.credit ≡ None }
         ensures log { self.new.state.heap.log ≡ self.old.state.heap.log }
     {
         self.credit = None;
@@ -73,99 +76,125 @@ impl<T: Opened> Locked<T> {
         Ok(())
     }
 
-    /// Applies what was fed to the indexes of the build that knows the credit so, and answers how many entries wait for it then.
-    /// [`Fault::NoBuild`] where that isn't the build that has it.
-    pub(crate) fn settle<S: Spool>(
+    /// A turn begins of the build that knows the credit so, which has applied all that it took. Answers how many entries wait for it.
+    /// [`Fault::NoBuild`] where that isn't the build that has the credit, or where some of what it took still waits.
+    pub(crate) fn begin_turn<S: Spool>(
         &mut self,
         known: Credit,
         building: &mut Building<S, T>,
     ) -> Result<usize, Fault>
         ensures left { IfOk result (λ left. left ≡ waiting_in self.new.state) }
-        ensures paced { IfOk result (λ left. 1024 < left → 2 * left + known.taken ≤ 1024 + 2 * known.first) }
-        ensures same { OnOk result (self.new.credit ≡ Some known) }
+        ensures credit { OnOk result (self.new.credit ≡ Some (record known { applied = known.taken })) }
         ensures settled { OnOk result (IsSettledBeside self.new building.new) }
         ensures goes_on { OnOk result ((count : ℕ) (specs : List KeySpecValue) → GoesOnWith count specs building.old → GoesOnWith count specs building.new) }
         ensures stakes { stakes_beside building.new ≡ stakes_beside building.old }
         ensures other { IfErr result (λ fault. IfSome building.old.work (λ w. w.spoiled ≡ None → IsOther fault)) }
         ensures log { self.new.state.heap.log ≡ self.old.state.heap.log }
     {
-        self.check_credit(known)?;
+        let credit = self.known_credit(known)?;
         // What is kept of the indexes is known once it is told.
         building.laws();
-        self.live.settle(building)?;
+        self.live.check_settled(building)?;
+        self.credit = Some(credit.after_all());
         self.progress.note_settled();
         Ok(self.live.entries_left())
     }
 
-    /// Whether the credit is that which the build knows.
-    fn check_credit(&self, known: Credit) -> Result<(), Fault>
-        ensures same { OnOk result (self.now.credit ≡ Some known) }
+    /// The credit, where it is that which the build knows. [`Fault::NoBuild`].
+    fn known_credit(&self, known: Credit) -> Result<Credit, Fault>
+        ensures same { IfOk result (λ credit. self.now.credit ≡ Some credit) }
+        ensures known { IfOk result (IsKnown known) }
         ensures other { IfErr result (λ fault. fault ≡ Fault.NoBuild) }
     {
         match self.credit {
-            Some(credit) if credit.first == known.first && credit.taken == known.taken => Ok(()),
+            Some(credit) if credit.is_known(known) => Ok(credit),
             _ => Err(Fault::NoBuild),
         }
     }
 
-    /// Moves the first entries that are left of each index into its ring as a batch, at most `most` of each, and answers how many those are together.
-    /// There is a queue for each batch.
+    /// A turn moves the first entries that are left of each index into its ring as a batch, at most `most` of each. There is a queue for each batch.
+    /// Answers the credit that the build knows then.
     pub(crate) fn feed_all<S: Spool>(
         &mut self,
         most: usize,
         batches: Vec<ChunkQueue<Entry>>,
         building: &mut Building<S, T>,
-    ) -> usize
+    ) -> Credit
         requires settled { IsSettledBeside self.old building.old }
         requires batches { length batches.items ≡ indexes_of_build self.old.state.build }
+        requires most { 2048 ≤ most }
         requires room { All (HasRoomForBatch most) batches.items }
-        requires countable { IfSome self.old.credit (λ credit. credit.taken + waiting_in self.old.state < 2 ^ 64) }
-        ensures taken { IfSome self.old.credit (λ credit. self.new.credit ≡ Some (record credit { taken = credit.taken + result })) }
-        ensures left { waiting_in self.new.state + result ≡ waiting_in self.old.state }
-        ensures many { (most < result + 1024) ⊎ (result ≡ waiting_in self.old.state) }
+        requires many { 1024 < waiting_in self.old.state }
+        requires credit { IsSome self.old.credit }
+        ensures taken { IfSome self.old.credit (λ credit. TakesMore credit result) }
+        ensures counted { IfSome self.old.credit (λ credit. waiting_in self.new.state + result.taken ≡ waiting_in self.old.state + credit.taken) }
+        ensures within { IfSome self.old.credit (λ credit. result.taken ≤ credit.taken + length batches.items * most) }
+        ensures given { self.new.credit ≡ Some result }
         ensures goes_on { (count : ℕ) (specs : List KeySpecValue) → GoesOnWith count specs building.old → GoesOnWith count specs building.new }
         ensures stakes { stakes_beside building.new ≡ stakes_beside building.old }
         ensures log { self.new.state.heap.log ≡ self.old.state.heap.log }
     {
+        let Some(credit) = self.credit else {
+            unreachable!()
+        };
         let fed = self.live.feed_all(most, batches, building);
         self.progress.note_fed(fed);
-        if let Some(credit) = self.credit {
-            self.credit = Some(credit.after_taking(fed));
-        }
-        fed
+        let after = credit.after_taking(fed);
+        self.credit = Some(after);
+        after
     }
 
-    /// Gives the build up, if one runs.
-    pub(crate) fn abandon(&mut self)
+    /// How the build caught up, as its credit tells.
+    fn caught_up(&self) -> CaughtUp
+        ensures told { IfSome self.now.credit (λ credit. result ≡ caught_up_by credit) }
+        ensures bounded { IsBounded (indexes_of_build self.now.state.build) (length self.now.state.heap.log) result }
+    {
+        match self.credit {
+            Some(credit) => CaughtUp {
+                waited: credit.first,
+                turns: credit.turns,
+            },
+            None => CaughtUp {
+                waited: 0,
+                turns: 0,
+            },
+        }
+    }
+
+    /// Gives the build up, if one runs, with room for the entries that no index gets any more.
+    pub(crate) fn abandon(&mut self, waste: &mut Vec<ChunkQueue<Entry>>)
         ensures none { self.new.state.build ≡ None }
+        ensures credit { self.new.credit ≡ None }
         ensures log { self.new.state.heap.log ≡ self.old.state.heap.log }
     {
         self.credit = None;
-        self.live.give_up();
+        self.live.give_up_into(waste);
         self.progress = Progress::idle();
     }
 
-    /// Switches the indexes in, and answers what the build reports, with the pairs if they are asked for, and how it caught up. Where busy transactions keep it waiting
-    /// no other transaction begins from here on.
+    /// Switches the indexes in, and answers what the build reports, with the pairs if they are asked for. Where busy transactions keep it waiting
+    /// no other transaction begins from here on. Sessions need no credit any more.
     pub(crate) fn switch<S: Spool>(
         &mut self,
         alloc: Global,
         keep_pairs: bool,
-        caught_up: CaughtUp,
         building: &mut Building<S, T>,
     ) -> Result<Report<T>, Fault>
         requires settled { IsSettledBeside self.old building.old }
         requires few { waiting_in self.old.state ≤ 1024 }
         ensures report { IfOk result (λ report. IfSome building.old.work
             (λ w. IsReport T.opening w.specs report.receipt report.verdicts (lists_in report.pairs))) }
-        ensures caught_up { IfOk result (λ report. report.caught_up ≡ caught_up) }
+        ensures bounded { IfOk result (λ report. IsBounded (indexes_of_build self.old.state.build) (length report.receipt) report.caught_up) }
+        ensures told { IfOk result (λ report. IfSome self.old.credit (λ credit. report.caught_up ≡ caught_up_by credit)) }
         ensures log { IfOk result (λ report. report.receipt ≡ self.new.state.heap.log) }
         ensures same { OnErr result (self.new.state.heap.log ≡ self.old.state.heap.log) }
+        ensures credit { self.new.credit ≡ None }
         ensures stakes { stakes_beside building.new ≡ stakes_beside building.old }
         ensures goes_on { IfErr result (λ fault. fault ≢ Fault.Memory
             → (count : ℕ) (specs : List KeySpecValue) → GoesOnWith count specs building.old → GoesOnWith count specs building.new) }
         ensures ends { IfErr result (λ fault. IfSome building.old.work (λ w. w.spoiled ≡ None → EndsFor w.specs fault)) }
     {
+        let caught_up = self.caught_up();
         self.credit = None;
         let first = self.live.ready().len();
         match self.live.switch_in(building) {
@@ -191,6 +220,7 @@ impl<T: Opened> Locked<T> {
     /// Sets the fence where a switch waits for transactions.
     fn fence_if_busy(&mut self, fault: Fault)
         ensures log { self.new.state.heap.log ≡ self.old.state.heap.log }
+        ensures credit { self.new.credit ≡ self.old.credit }
     {
         if let Fault::Busy(_) = fault {
             let _fenced = self.live.fence();

@@ -1,5 +1,5 @@
 //! What is noted under the lock of how far a build is.
-ghost use Rattle.std.specs.Prelude.{◌≡◌, ◌<◌, ◌≤◌, ◌^◌, Some, length, true, false};
+ghost use Rattle.std.specs.Prelude.{◌≡◌, ◌≤◌, IfSome, Some, None, max, min, length, true, false};
 ghost use Rattle.heap_table.specs.HeapState.{busy_txns};
 ghost use Rattle.crew.specs.Credits.{WriteHasCredit, indexes_of_build};
 ghost use Rattle.live_lemmas.specs.Settling.{waiting_in};
@@ -58,16 +58,23 @@ impl<T: Opened> Locked<T> {
     /// The build begins to catch up: sessions have credit from here on, which it is answered.
     pub(crate) fn give_credit(&mut self) -> Credit
         ensures state { self.new.state ≡ self.old.state }
-        ensures credit { result ≡ record { first = waiting_in self.old.state; taken = 0 } }
+        ensures credit { result ≡ record { first = waiting_in self.old.state; taken = 0; applied = 0; turns = 0 } }
         ensures given { self.new.credit ≡ Some result }
-        ensures few { result.first < 2 ^ 63 }
     {
-        let credit = Credit {
-            first: self.live.entries_left(),
-            taken: 0,
-        };
+        let credit = Credit::new(self.live.entries_left());
         self.credit = Some(credit);
         credit
+    }
+
+    /// So many of the entries that the build took are applied by now: sessions have credit for them.
+    pub(crate) fn see_applied(&mut self, count: usize)
+        ensures state { self.new.state ≡ self.old.state }
+        ensures credit { IfSome self.old.credit (λ credit. self.new.credit ≡ Some (record credit { applied = max credit.applied (min count credit.taken) })) }
+        ensures none { self.old.credit ≡ None → self.new.credit ≡ None }
+    {
+        if let Some(credit) = self.credit {
+            self.credit = Some(credit.once_applied(count));
+        }
     }
 
     /// An index has its pairs in order, which are so many.

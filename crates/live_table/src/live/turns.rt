@@ -1,13 +1,13 @@
 //! The turns of a build that catches up with those who write, with both ends of the rings of its side-files at hand.
-ghost use Rattle.std.specs.Prelude.{◌≡◌, ◌⊎◌, ℕ, ◌+◌, ◌^◌, ◌<◌, ◌≤◌, All, None, true, length, IfSome, IsSome, IfErr, OnOk, slice_get};
+ghost use Rattle.std.specs.Prelude.{◌≡◌, ◌⊎◌, ◌+◌, ◌*◌, ◌^◌, ◌<◌, ◌≤◌, All, None, true, false, length, IfSome, IsSome, IfErr, OnOk, slice_get};
 ghost use Rattle.build_events.specs.Workers.{unfed};
-ghost use Rattle.build_events.specs.BuildSteps.{CatchesUp, OnBuild};
+ghost use Rattle.build_events.specs.BuildSteps.{OnBuild};
 ghost use Rattle.build_events.specs.declared.event.Event.{Event};
 ghost use Rattle.table_scan.specs.SideFiles.{side_refusal};
 ghost use Rattle.building.specs.BuildingValue.{BuildingValue};
 ghost use Rattle.live_lemmas.specs.Builds.{core_state, cause_of, StandsBeside};
-ghost use Rattle.live_lemmas.specs.CatchingUp.{MayCatchUp, IndexIsFurther};
-ghost use Rattle.live_lemmas.specs.Settling.{FeedsBatch, HasFedBatch, HasRoomForBatch, IsSettled, OnlyFeeds, Settles, ring_at, waiting_in};
+ghost use Rattle.live_lemmas.specs.CatchingUp.{MayCatchUp};
+ghost use Rattle.live_lemmas.specs.Settling.{FeedsBatch, HasFedBatch, HasRoomForBatch, IsSettled, OnlyFeeds, ring_at, waiting_in};
 ghost use Rattle.live_lemmas.specs.Switching.{IsPartOf, KeepsOut};
 
 use crate::{Building, Live, TableRings};
@@ -44,63 +44,58 @@ impl<T: TableRings> Live<T> {
         side.left()
     }
 
-    /// Takes in what stands beside the table, and applies what waits in the rings of its indexes, so that all that was fed is applied.
-    /// [`Fault::NoBuild`], the fault of a spoiled build, [`Fault::NotScanned`], [`Fault::NotLoaded`], [`Fault::NotSealed`] as a switch has
-    /// them. Where memory is wanted, entries that were applied stay applied, and it can be called again.
-    pub fn settle<S: Spool>(&mut self, building: &mut Building<S, T>) -> Result<(), Fault>
+    /// Takes in what stands beside the table, once all that was fed to its indexes is applied. [`Fault::NoBuild`], also where some of it still waits;
+    /// the fault of a spoiled build, [`Fault::NotScanned`], [`Fault::NotLoaded`], [`Fault::NotSealed`] as a switch has them. Takes no memory.
+    pub fn check_settled<S: Spool>(&mut self, building: &mut Building<S, T>) -> Result<(), Fault>
         ensures works { OnOk result (StandsBeside self.new building.new) }
-        ensures settled { OnOk result (IsSettled (core_state self.new building.new)) }
+        ensures settled { OnOk result (IsSettled (core_state self.old building.old)) }
         ensures part { OnOk result (IsPartOf self.old building.old) }
-        ensures few { OnOk result (OnBuild self.new.state.build (λ b. length b.specs ≤ 8)) }
-        ensures further { OnOk result (CatchesUp (core_state self.old building.old) (core_state self.new building.new)) }
-        ensures settles { Settles (core_state self.old building.old) (core_state self.new building.new) }
-        ensures refused { IfErr result (λ fault. KeepsOut true self.old building.old fault ⊎ (fault ≡ Fault.Memory)) }
+        ensures few { OnOk result (OnBuild self.old.state.build (λ b. length b.specs ≤ 8)) }
+        ensures same { core_state self.new building.new ≡ core_state self.old building.old }
+        ensures refused { IfErr result (λ fault. KeepsOut true self.old building.old fault
+            ⊎ ((fault ≡ Fault.NoBuild) × (IsSettled (core_state self.old building.old) → ⊥))) }
     {
         // What the table keeps is known once its fields are reached.
         let _pages = &self.pages;
         self.take_in(building, true)?;
-        self.settle_all(building)
+        if self.is_settled(building) {
+            Ok(())
+        } else {
+            Err(Fault::NoBuild)
+        }
     }
 
-    /// The same of work that goes with the build.
-    fn settle_all<S: Spool>(&mut self, building: &mut Building<S, T>) -> Result<(), Fault>
+    /// Whether all that was fed to the indexes is applied.
+    fn is_settled<S: Spool>(&mut self, building: &mut Building<S, T>) -> bool
         requires works { StandsBeside self.old building.old }
         requires runs { MayCatchUp (core_state self.old building.old) }
         ensures works { StandsBeside self.new building.new }
-        ensures settled { OnOk result (IsSettled (core_state self.new building.new)) }
-        ensures further { CatchesUp (core_state self.old building.old) (core_state self.new building.new) }
-        ensures settles { Settles (core_state self.old building.old) (core_state self.new building.new) }
-        ensures memory { IfErr result (λ fault. fault ≡ Fault.Memory) }
+        ensures same { core_state self.new building.new ≡ core_state self.old building.old }
+        ensures settled { result ≡ true → IsSettled (core_state self.old building.old) }
+        ensures waits { result ≡ false → IsSettled (core_state self.old building.old) → ⊥ }
     {
         let Some(build) = self.build() else {
             unreachable!()
         };
         building.laws();
         for index in 0..build.indexes() {
-            self.settle_one(index, building)?;
+            if self.waiting_at(index, building) > 0 {
+                return false;
+            }
         }
-        Ok(())
+        true
     }
 
-    /// Applies what waits in the ring of an index.
-    fn settle_one<S: Spool>(
-        &mut self,
-        index: usize,
-        building: &mut Building<S, T>,
-    ) -> Result<(), Fault>
+    /// How many entries wait in the ring of an index.
+    fn waiting_at<S: Spool>(&mut self, index: usize, building: &mut Building<S, T>) -> usize
         requires works { StandsBeside self.old building.old }
         requires few { index < 8 }
         requires runs { cause_of self.old building.old (Event.Apply index 256) ≡ None }
         ensures works { StandsBeside self.new building.new }
-        ensures further { IndexIsFurther index (core_state self.old building.old) (core_state self.new building.new) }
-        ensures emptied { OnOk result (ring_at index (core_state self.new building.new) ≡ 0) }
-        ensures others { OnOk result ((k : ℕ) → (k ≡ index → ⊥) → ring_at k (core_state self.new building.new) ≡ ring_at k (core_state self.old building.old)) }
-        ensures settles { Settles (core_state self.old building.old) (core_state self.new building.new) }
-        ensures memory { IfErr result (λ fault. fault ≡ Fault.Memory) }
+        ensures same { core_state self.new building.new ≡ core_state self.old building.old }
+        ensures waiting { result ≡ ring_at index (core_state self.old building.old) }
     {
-        let waiting = self.look_at_side(index, building);
-        self.apply(index, waiting, building)?;
-        Ok(())
+        self.look_at_side(index, building)
     }
 
     /// Moves the first entries that each index has left into its ring as a batch, by whole chunks and at most `most` of each, and answers how many those
@@ -119,6 +114,7 @@ impl<T: TableRings> Live<T> {
         ensures feeds { OnlyFeeds (core_state self.old building.old) (core_state self.new building.new) }
         ensures left { waiting_in self.new.state + result ≡ waiting_in self.old.state }
         ensures many { (most < result + 1024) ⊎ (result ≡ waiting_in self.old.state) }
+        ensures within { OnBuild self.old.state.build (λ b. result ≤ length b.specs * most) }
     {
         let Some(build) = self.build() else {
             unreachable!()

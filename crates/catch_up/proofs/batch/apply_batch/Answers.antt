@@ -8,7 +8,7 @@ use Rattle.catch_up.proofs.Telling.{changes_same}
 use Rattle.catch_up.proofs.batch.apply_batch.Goals as goal
 
 pub returns-clause-applied : goal.returns-clause-applied
-returns-clause-applied c =
+returns-clause-applied g c =
     let old = set_of c.args.built.now.pairs in
     record {
       build = search rules;

@@ -10,8 +10,8 @@ pub returns-then-number-other : goal.returns-then-number-other
 returns-then-number-other c =
     let xs = c.args.bytes.now in
     let ys = c.args.others.now in
-    let number : c.read_u64-number.result ≡ big_number 8 xs = c.read_u64-number.ensures in
-    let other : c.read_u64-other.result ≡ big_number 8 ys = c.read_u64-other.ensures in
+    let number : c.head-number.result ≡ big_number 8 xs = c.head-number.ensures in
+    let other : c.head-other.result ≡ big_number 8 ys = c.head-other.ensures in
     let apart : big_number 8 xs ≡ big_number 8 ys → ⊥ = λ same. c.if-number-other.true (number ∙ same ∙ sym other) in
     let is = numbers_decide 8 xs ys c.requires.long c.requires.other_long c.requires.bytes c.requires.other_bytes apart in
     c.cmp.ensures ∙ rw (number, other) (sym is)
@@ -20,8 +20,8 @@ pub returns : goal.returns
 returns c =
     let xs = c.args.bytes.now in
     let ys = c.args.others.now in
-    let number : c.read_u64-number.result ≡ big_number 8 xs = c.read_u64-number.ensures in
-    let other : c.read_u64-other.result ≡ big_number 8 ys = c.read_u64-other.ensures in
+    let number : c.head-number.result ≡ big_number 8 xs = c.head-number.ensures in
+    let other : c.head-other.result ≡ big_number 8 ys = c.head-other.ensures in
     let same : big_number 8 xs ≡ big_number 8 ys = sym number ∙ c.if-number-other.false ∙ other in
     let rest : c.cmp-2.result ≡ slice_cmp nat_cmp (drop 8 xs) (drop 8 ys) =
     c.cmp-2.ensures ∙ rw (take_rest xs 8, take_rest ys 8) refl in

@@ -1,4 +1,8 @@
-use Rattle.std.proofs.Common.{◌≤◌, length, subst, sym, ap, ◌∙◌, rules}
+use Rattle.std.proofs.Common.{◌≤◌, List, length, subst, sym, ap, ◌∙◌, rules}
+use mathlib.Core.List.{IsPrefix}
+use Rattle.heap_log.specs.declared.record.LogRec.{LogRec}
+use Rattle.ready_indexes.specs.Indexes.{ReadyValue}
+use Rattle.crew.specs.MadeReady.{HasMadeReady}
 use Rattle.live_lemmas.specs.Builds.{StandsBeside, core_state}
 use Rattle.live_lemmas.specs.Settling.{IsSettled, waiting_in}
 use Rattle.crew.specs.Credits.{LockedValue, live_in}
@@ -29,6 +33,18 @@ returns-in-Err-clause-ends g c =
     let settled = subst (λ (l : LockedValue). IsSettled (core_state (live_in l) c.args.building.now)) (sym c.self.view_is) c.requires.settled.settled in
     let few = subst (λ (l : LockedValue). waiting_in l.state ≤ 1024) (sym c.self.view_is) c.requires.few in
     switch_ends_for c.self.inside.live c.switch_in.new.self c.args.building.now c.switch_in.new.building c.in-Err.fault works settled few c.in-Err.ensures.refused
+
+pub invariant_of-self-in-Err : goal.invariant_of-self-in-Err
+invariant_of-self-in-Err g c =
+    let live = c.self.inside.live in
+    let new = c.switch_in.new.self in
+    let left = switch_left live new c.args.building.now c.switch_in.new.building c.in-Err.fault c.in-Err.ensures.refused in (
+      c.self.invariant.0 ∙ sym left.log,
+      subst (λ (l : List LogRec). IsPrefix g.T.Opened.opening l) (sym left.log) c.self.invariant.1,
+      subst (λ (l : List LogRec). HasMadeReady g.T.Opened.opening l (length new.state.ready)) (sym left.log)
+          (subst (λ (rs : List ReadyValue). HasMadeReady g.T.Opened.opening live.state.heap.log (length rs)) (sym left.ready) c.self.invariant.2),
+      tt,
+    )
 
 pub invariant_of-self : goal.invariant_of-self
 invariant_of-self g c =

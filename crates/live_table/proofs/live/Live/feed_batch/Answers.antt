@@ -103,6 +103,7 @@ returns-clause-fed g c =
       build = c.in-Some.build;
       runs = c.in-Some.is;
       few = subst (λ n. count ≤ n) (sym (left_is it)) it.few;
+      within = c.feed_batch-count.ensures.most;
       put = old.end;
       there = map_at (λ (s : SideFileValue). s.end) sides c.args.index old it.there;
       whole = λ free. subst (λ n. TakesMost c.args.most n count) (sym (left_is it)) (c.feed_batch-count.ensures.whole free);
