@@ -1,5 +1,5 @@
 -- Entries that are taken from the side-file's ring and applied to the index, one after another.
-use Rattle.std.proofs.Common.{Result, Ok, Err, OnErr, ◌≡◌, ◌⊎◌, ℕ, zero, suc, sym, ap, ◌∙◌, ◌+◌, ◌<◌, ◌≤◌, true, List, [], ◌∷◌, ◌++◌, length, map, get_or, take, drop}
+use Rattle.std.proofs.Common.{Result, Ok, Err, OnErr, ◌≡◌, ◌⊎◌, ℕ, zero, suc, sym, ap, ◌∙◌, ◌+◌, ◌<◌, ◌≤◌, true, List, [], ◌∷◌, ◌++◌, length, get_or, take, drop}
 use Rattle.std.proofs.Common.{set, set-set, append_assoc, Option, Some, None, refl, ap₂, subst, arith, inl, inr, Bool, length-append, length-drop, take-add, drop-drop}
 use Rattle.std.proofs.lemmas.Option.{same_Some}
 use Rattle.building.specs.BuildingValue.{BuildingValue, WorkValue, IndexValue, with_index, with_pairs}

@@ -1,5 +1,5 @@
 -- What a call leaves beside a table, put together from what its parts left.
-use Rattle.std.proofs.Common.{◌≡◌, ℕ, zero, suc, true, ◌==◌, ◌-◌, ◌*◌, ◌<◌, length, Bool, false, ◌&&◌, List, [], ◌∷◌, ◌++◌, All, map, set, Option, Some, None}
+use Rattle.std.proofs.Common.{◌≡◌, ℕ, zero, suc, true, ◌==◌, ◌*◌, ◌<◌, length, Bool, false, ◌&&◌, List, [], ◌∷◌, ◌++◌, All, map, set, Option, Some, None}
 use Rattle.std.proofs.Common.{refl, sym, ap, ◌∙◌, subst, ap₂, append-nil}
 use Rattle.std.specs.Prelude.{is_some}
 use Rattle.std.specs.List.{list_all, slice_get}

@@ -1,5 +1,5 @@
 -- The spools of a build: those that its workers have, and those that no worker has.
-use Rattle.std.specs.Prelude.{◌≡◌, ℕ, ◌-◌, ◌*◌, ◌<◌, Bool, if◌then◌else◌, List, [], ◌++◌, map, flat_map, length, Option, Some}
+use Rattle.std.specs.Prelude.{◌≡◌, ℕ, ◌*◌, ◌<◌, Bool, if◌then◌else◌, List, [], ◌++◌, map, flat_map, length, Option, Some}
 use Rattle.std.specs.List.{All, slice_get}
 use Rattle.keybytes.specs.Keys.{KeySpecValue}
 use Rattle.keybytes.specs.declared.kind.Kind.{Kind}

@@ -1,5 +1,5 @@
 -- Entries of one index were fed: what a table keeps of its side-files then, and what stands beside it.
-use Rattle.std.proofs.Common.{◌≡◌, ℕ, ◌+◌, ◌<◌, ◌≤◌, ◌^◌, List, length, map, set, Option, Some, sym, ap, subst, arith}
+use Rattle.std.proofs.Common.{◌≡◌, ℕ, ◌+◌, ◌<◌, ◌≤◌, ◌^◌, List, length, set, Option, Some, sym, subst, arith}
 use Rattle.std.specs.List.{slice_get}
 use Rattle.std.proofs.lemmas.List.{map-set}
 use Rattle.keybytes.specs.Keys.{KeySpecValue}
@@ -18,7 +18,6 @@ use Rattle.table_scan.proofs.Feeding.{build_fed, fed_countable, left_unfed, side
 use Rattle.table_scan.proofs.OwnEntries.{sent_at, sent_fed, sent_set}
 use Rattle.building.specs.BuildingValue.{BuildingValue, WorkValue}
 use Rattle.building.specs.WorkOn.{WorkMatches, WorkersFollow}
-use Rattle.live_lemmas.specs.Rings.{HasPut}
 use Rattle.live_lemmas.proofs.Feeding.{follow_fed, work_fed}
 use Rattle.page_workers.proofs.Places.{map_at, there_is}
 

@@ -1,4 +1,4 @@
-use Rattle.std.proofs.Common.{◌≡◌, ◌≤◌, [], All, map, length, vec_capacity}
+use Rattle.std.proofs.Common.{◌≡◌, ◌≤◌, [], All, length, vec_capacity}
 use Rattle.table_scan.specs.SideFiles.{side_rings, taken_rings, put_ends}
 use Rattle.live_table.proofs.parts.entry_rings.Given as goal
 

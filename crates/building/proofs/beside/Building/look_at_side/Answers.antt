@@ -1,4 +1,4 @@
-use Rattle.std.proofs.Common.{rules, map, refl, arith}
+use Rattle.std.proofs.Common.{map, refl, arith}
 use Rattle.page_workers.specs.SpoolValue.{spool_value}
 use Rattle.table_scan.specs.SideFiles.{HasLookedAtSide, SeesSide}
 use Rattle.building.proofs.SideEnds.{eight_ends, ring_of, side_end_kept, side_is_seen, take_ends_stay}

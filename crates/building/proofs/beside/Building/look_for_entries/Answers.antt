@@ -1,4 +1,4 @@
-use Rattle.std.proofs.Common.{rules, map, refl, arith}
+use Rattle.std.proofs.Common.{map, refl, arith}
 use Rattle.page_workers.specs.SpoolValue.{spool_value}
 use Rattle.building.proofs.SideEnds.{eight_ends, has_seen_entries, side_end_kept, take_ends_stay}
 use Rattle.building.proofs.beside.Building.look_for_entries.Goals as goal

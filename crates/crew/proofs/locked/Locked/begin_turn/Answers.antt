@@ -1,4 +1,4 @@
-use Rattle.std.proofs.Common.{◌≡◌, ◌∙◌, List, Some, length, ap, subst, sym, refl, arith}
+use Rattle.std.proofs.Common.{◌≡◌, ◌∙◌, List, Some, length, ap, subst, sym}
 use mathlib.Core.List.{IsPrefix}
 use Rattle.build_events.specs.CoreState.{CoreState, LiveState}
 use Rattle.heap_log.specs.declared.record.LogRec.{LogRec}

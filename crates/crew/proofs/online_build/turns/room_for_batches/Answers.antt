@@ -1,4 +1,4 @@
-use Rattle.std.proofs.Common.{◌≡◌, ◌∙◌, ◌∷◌, [], All, length, sym, ap, subst, arith, length-append}
+use Rattle.std.proofs.Common.{◌∙◌, ◌∷◌, [], All, length, sym, ap, subst, arith, length-append}
 use Rattle.std.proofs.lemmas.List.Elements.{All-push}
 use Rattle.live_lemmas.specs.Settling.{HasRoomForBatch}
 use Rattle.crew.proofs.online_build.turns.room_for_batches.Goals as goal

@@ -1,6 +1,6 @@
 use mir.Syntax.{named}
 use denote.Param.{param}
-use denote.Param.Send.{param_sync, sendable}
+use denote.Param.Send.{param_sync}
 use Rattle.std.proofs.Common.{rules, ◌≡◌, ◌∙◌, List, length, Option, vec_len, sym, ap, subst}
 use Rattle.std.proofs.lemmas.Result.{err_from_is_err_and}
 use Rattle.std.specs.Prelude.{IfSome}
@@ -10,7 +10,7 @@ use Rattle.crew.specs.declared.locked.credit.Credit.{Credit}
 use Rattle.crew.specs.Reports.{EndsFor, IsReport, lists_in}
 use Rattle.crew.proofs.Crosses.{applying_sync}
 use Rattle.crew.proofs.Following.{indexes_beside, of_going, report_of_going}
-use Rattle.crew.proofs.Loads.{batches_go_on, batches_stakes, batches_stopped_stakes, can_apply_all}
+use Rattle.crew.proofs.Loads.{batches_go_on, can_apply_all}
 use Rattle.crew.proofs.online_build.turns.take_turn.Lts as lts
 use Rattle.crew.proofs.online_build.turns.take_turn.Goals as goal
 

@@ -1,10 +1,8 @@
-use Rattle.std.proofs.Common.{◌≤◌, ◌∙◌, List, length, Option, Some, None, true, ap, subst, sym}
+use Rattle.std.proofs.Common.{◌≤◌, ◌∙◌, List, length, Option, Some, None, true, ap}
 use Rattle.heap_log.specs.declared.record.LogRec.{LogRec}
 use Rattle.keybytes.specs.declared.kind.Kind.{Kind}
 use Rattle.build_events.specs.BuildSteps.{OnBuild}
-use Rattle.build_events.specs.CoreState.{BuildState, CoreState}
-use Rattle.live_lemmas.specs.Builds.{LiveValue}
-use Rattle.live_lemmas.specs.Settling.{IsSettled}
+use Rattle.build_events.specs.CoreState.{BuildState}
 use Rattle.live_lemmas.specs.Switching.{early_cause}
 use Rattle.live_lemmas.proofs.Unloaded.{early_may}
 use Rattle.table_scan.specs.TableBuilds.{BuildFollows}

@@ -14,7 +14,6 @@ use Rattle.live_lemmas.specs.Rings.{HasPut, PagesFollow}
 use Rattle.table_scan.specs.SideFiles.{HaveEntries, SidesFollow, put_ends}
 use Rattle.side_file.specs.Changes.{feed_most}
 use Rattle.side_file.specs.Entries.{entry_of}
-use Rattle.build_events.specs.BuildSteps.{after_feed}
 use Rattle.build_events.specs.Workers.{unfed, fed_to}
 use Rattle.live_lemmas.proofs.FedSides.{IsFedFrom, countable, follows_fed, have_fed, its, its_spec, left_is, sent_of_builds, work_follows, workers_follow}
 use Rattle.page_workers.proofs.Places.{at_index, map_at}

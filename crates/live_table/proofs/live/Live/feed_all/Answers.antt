@@ -1,4 +1,4 @@
-use Rattle.std.proofs.Common.{◌≡◌, ◌<◌, ◌∙◌, length, Option, Some, ap, subst, sym, arith}
+use Rattle.std.proofs.Common.{◌≡◌, ◌<◌, ◌∙◌, length, Option, ap, subst, sym, arith}
 use Rattle.std.proofs.lemmas.List.Elements.{All-pop}
 use Rattle.std.proofs.lemmas.Option.{same_Some}
 use Rattle.build_events.specs.BuildSteps.{OnBuild}
@@ -6,7 +6,7 @@ use Rattle.build_events.specs.CoreState.{BuildState}
 use Rattle.live_lemmas.specs.Builds.{core_state}
 use Rattle.live_lemmas.specs.Settling.{HasRoomForBatch}
 use Rattle.table_scan.specs.TableBuilds.{BuildFollows}
-use Rattle.live_lemmas.proofs.Settling.{IsBeingFed, fed_and_left, fed_one_more, is_there, many_were_fed, not_fed_yet, only_feeds, still_empty}
+use Rattle.live_lemmas.proofs.Settling.{fed_one_more, not_fed_yet}
 use Rattle.live_table.proofs.live.Live.feed_all.Goals as goal
 
 pub loop-index-init : goal.loop-index-init

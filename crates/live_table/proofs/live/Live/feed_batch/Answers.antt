@@ -1,6 +1,5 @@
-use Rattle.std.proofs.Common.{ℕ, ◌+◌, ◌<◌, ◌≤◌, ◌⊎◌, List, length, set, Option, Some, None, ◌≡◌, sym, ap, ◌∙◌, subst, inl, inr, arith}
+use Rattle.std.proofs.Common.{ℕ, ◌<◌, ◌≤◌, ◌⊎◌, List, length, set, Option, Some, ◌≡◌, sym, ap, ◌∙◌, subst, inl, inr, arith}
 use Rattle.std.proofs.lemmas.Bool.{cases_lt}
-use Rattle.std.specs.List.{slice_get}
 use Rattle.heap_table.specs.HeapState.{HeapState}
 use Rattle.side_file.specs.Changes.{TakesMost}
 use Rattle.side_file.specs.SideFileValue.{SideFileValue}
@@ -8,8 +7,7 @@ use Rattle.live_lemmas.specs.Builds.{LiveValue, StandsBeside}
 use Rattle.live_lemmas.specs.Settling.{HasFedBatch}
 use Rattle.building.specs.WorkOn.{WorkMatches, WorkersFollow}
 use Rattle.table_scan.specs.TableBuilds.{IsBuildOf, BuildFollows}
-use Rattle.build_events.specs.CoreState.{BuildState, LiveState}
-use Rattle.build_events.specs.Workers.{unfed}
+use Rattle.build_events.specs.CoreState.{BuildState}
 use Rattle.building.specs.Rings.{all_sent}
 use Rattle.live_lemmas.specs.Rings.{HasPut, PagesFollow}
 use Rattle.table_scan.specs.SideFiles.{HaveEntries, SidesFollow, put_ends, side_refusal}

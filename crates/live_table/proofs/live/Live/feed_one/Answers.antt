@@ -1,6 +1,6 @@
-use Rattle.std.proofs.Common.{◌≡◌, ℕ, ◌<◌, ◌∙◌, length, Option, None, Some, refl, ap, subst}
+use Rattle.std.proofs.Common.{◌≡◌, ℕ, ◌<◌, ◌∙◌, length, Option, None, Some, refl, ap}
 use Rattle.build_events.specs.BuildSteps.{OnBuild}
-use Rattle.build_events.specs.CoreState.{BuildState, LiveState}
+use Rattle.build_events.specs.CoreState.{BuildState}
 use Rattle.live_lemmas.specs.Builds.{LiveValue}
 use Rattle.table_scan.specs.SideFiles.{side_refusal}
 use Rattle.live_lemmas.proofs.ApplyCauses.{inside_of}

@@ -1,4 +1,4 @@
-use Rattle.std.proofs.Common.{◌≡◌, ◌∙◌, sym, ap}
+use Rattle.std.proofs.Common.{◌∙◌, sym, ap}
 use Rattle.live_lemmas.specs.Builds.{core_state}
 use Rattle.live_lemmas.specs.Settling.{ring_at, ring_of}
 use Rattle.live_lemmas.proofs.ApplyCauses.{applies_next}

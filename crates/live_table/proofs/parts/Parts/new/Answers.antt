@@ -6,7 +6,6 @@ use Rattle.side_file.specs.declared.entry.Entry.{Entry}
 use Rattle.side_file.specs.Ends.{TakeEnd}
 use Rattle.page_workers.specs.IntakeValue.{IntakeValue}
 use Rattle.page_workers.specs.declared.copied.Copied.{Copied}
-use Rattle.std.specs.Prelude.{map}
 use Rattle.table_scan.specs.SideFiles.{put_ends}
 use Rattle.page_workers.proofs.Places.{as_long}
 use Rattle.live_table.proofs.parts.Parts.new.Goals as goal
