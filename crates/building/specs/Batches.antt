@@ -48,7 +48,9 @@ abbrev pub IsApplied : IndexBatch → Type 0
 IsApplied batch = BatchIsIn (entries_of batch) batch.index (length (entries_of batch)) batch.new
 
 -- a batch was applied to each of these indexes, with the end at its place, of so many entries together; the ends behind them are as they were
-pub record AreApplied (indexes : List IndexValue) (ends : List (TakeEnd Entry)) (count : ℕ) (new : List IndexValue) (new_ends : List (TakeEnd Entry)) : Type 0 where
+pub record AreApplied
+    (indexes : List IndexValue) (ends : List (TakeEnd Entry)) (count : ℕ) (new : List IndexValue) (new_ends : List (TakeEnd Entry))
+    : Type 0 where
   pub batches : List IndexBatch
   pub each : All IsApplied batches
   pub counted : count ≡ sum_by (λ batch. length (entries_of batch)) batches
