@@ -127,16 +127,27 @@ impl Watch {
             .saturating_add(rounds)
     }
 
-    /// Asks for the rounds that are to wait for the build, and holds the caller until they are answered.
+    /// Asks for the rounds that are to wait for the build, and holds the caller until they are answered, as long as they go on.
     fn hold_for_backlog(&self) {
+        let first = self.answered.load(Ordering::SeqCst);
         let rounds = self.ask(self.backlog);
-        for _ in 0..LOOKS {
-            thread::yield_now();
-            if self.answered.load(Ordering::SeqCst) >= rounds {
+        for round in first..rounds {
+            if !self.is_answered_behind(round) {
+                self.gave_up.store(true, Ordering::SeqCst);
                 return;
             }
         }
-        self.gave_up.store(true, Ordering::SeqCst);
+    }
+
+    /// Waits until more than so many rounds are answered; whether they were before long.
+    fn is_answered_behind(&self, round: u64) -> bool {
+        for _ in 0..LOOKS {
+            thread::yield_now();
+            if self.answered.load(Ordering::SeqCst) > round {
+                return true;
+            }
+        }
+        false
     }
 }
 
