@@ -1,8 +1,5 @@
 -- What a log keeps of each transaction and each RID.
-use Rattle.std.specs.Prelude.{◌≡◌, ℕ, ◌+◌, ◌≤◌, ◌==◌, nat_eq, if◌then◌else◌, List, length, Option, Some, None, unwrap_or}
-use Rattle.std.specs.HashMap.{HashMap, get, spare}
-use Rattle.std.specs.declared.hash.FoldHasher.{FoldHasher}
-use Rattle.std.specs.declared.hash.BuildHasherDefault.{BuildHasherDefault}
+use Rattle.std.specs.Prelude.{◌≡◌, ℕ, ◌+◌, ◌≤◌, ◌==◌, if◌then◌else◌, List, length, Option, Some, None}
 use Rattle.chunk_list.specs.ChunkValue.{ChunkValue}
 use Rattle.keybytes.specs.declared.rid.Rid.{Rid}
 use Rattle.heap_log.specs.declared.record.LogRec.{LogRec}
@@ -12,16 +9,9 @@ use Rattle.heap_log.specs.declared.rid_head.RidHead.{RidHead}
 use Rattle.heap_log.specs.declared.heads.Heads.{Heads}
 use Rattle.heap_log.specs.Links.{AreLinks}
 use Rattle.heap_log.specs.PageHeads.{rid_head_in}
+use Rattle.heap_log.specs.TxnHeads.{txn_head_in}
 use Rattle.keybytes.specs.Rids.{same_rid}
 use Rattle.heap_log.specs.Standing.{newest_standing, standing_count, newest_at, last_of, last_at}
-
--- the map, since antt has no name for the alias
-abbrev pub TxnHeads : Type 0
-TxnHeads = HashMap ℕ TxnHead (BuildHasherDefault FoldHasher)
-
--- what it has of a transaction
-abbrev pub txn_head_in : TxnHeads → ℕ → TxnHead
-txn_head_in heads txn = unwrap_or (get nat_eq heads txn) (record { last = None; newest = None; standing = 0 })
 
 -- what the log says of a transaction, of a RID
 abbrev pub txn_head : List LogRec → ℕ → TxnHead
@@ -44,11 +34,10 @@ pub record AreHeadsAfter (old new : List LogRec) (heads : Option Heads) : Type 0
   pub txns : (txn : ℕ) → txn_head new txn ≡ with_txn heads txn (txn_head old txn)
   pub rids : (rid : Rid) → rid_head new rid ≡ with_rid heads rid (rid_head old rid)
 
--- links and heads go with the records, and there is room for that many more records, with what is kept of each
-pub record IsKept (entries : ChunkValue LogRec) (beside : ChunkValue Link) (of_txns : TxnHeads) (at_rids : List (List RidHead)) (room : ℕ) : Type 0 where
+-- links and heads go with the records, and there is room for that many more records, with a link for each
+pub record IsKept (entries : ChunkValue LogRec) (beside : ChunkValue Link) (of_txns : List TxnHead) (at_rids : List (List RidHead)) (room : ℕ) : Type 0 where
   pub links : AreLinks entries.items beside.items
   pub txns : (txn : ℕ) → txn_head_in of_txns txn ≡ txn_head entries.items txn
   pub rids : (rid : Rid) → rid_head_in at_rids rid ≡ rid_head entries.items rid
   pub records_room : room ≤ entries.room
   pub links_room : room ≤ beside.room
-  pub txns_room : room ≤ spare of_txns

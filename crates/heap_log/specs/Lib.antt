@@ -6,3 +6,4 @@ pub mod LogValue
 pub mod PageHeads
 pub mod Places
 pub mod Standing
+pub mod TxnHeads

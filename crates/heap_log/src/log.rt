@@ -1,5 +1,5 @@
 ghost use Rattle.std.specs.Prelude.{◌≡◌, ℕ, ◌<◌, ◌≤◌, ◌+◌, ◌-◌, max, ◌++◌, ◌∷◌, [], length, Some, None, true, false, IsSome, IfSome, IsOk, IfErr, OnOk, OnErr};
-ghost use Rattle.heap_log.specs.Growing.{Added, UndoesNameEarlier, changed_rid};
+ghost use Rattle.heap_log.specs.Growing.{Added, UndoesNameEarlier, changed_rid, is_change_by};
 ghost use Rattle.heap_log.specs.Heads.{txn_head, rid_head, AreHeadsAfter};
 ghost use Rattle.heap_log.specs.Links.{newest_before, newest_without, IsLinkOf};
 ghost use Rattle.heap_log.specs.Places.{HasPlace, HasPlaceFor, KeepsPlaces};
@@ -12,15 +12,14 @@ use crate::heads::Heads;
 use crate::link::{Link, mark_undone};
 use crate::page_heads::{PageHeads, set_rid_head};
 use crate::rid_head::RidHead;
-use crate::txn_head::{TxnHead, TxnHeads, set_txn_head, txn_head};
+use crate::txn_head::{TxnHead, TxnHeads, reserve_txn, set_txn_head, txn_head};
 use chunk_list::ChunkList;
 use keybytes::{Fault, Rid};
 use std::alloc::Global;
-use std::collections::HashMap;
 use std::marker::Model;
 
-/// The log. Contracts see its records in order; its room, how many more it can take without memory; and its places, for
-/// how many slots of each page it can take writes.
+/// The log. Contracts see its records in order; its room, how many more it can take without memory; its places, for how
+/// many slots of each page it can take writes; and for how many transactions it can, by their numbers.
 #[derive(Drop)]
 pub struct Log {
     records: ChunkList<LogRec>,
@@ -35,12 +34,18 @@ impl Model for Log {
 
     ghost Value = { LogValue };
 
+    ghost use Rattle.std.specs.Prelude.{length};
     ghost use Rattle.heap_log.specs.Heads.{IsKept};
     ghost use Rattle.heap_log.specs.PageHeads.{places_of};
 
-    ghost view = { λ log. record { records = log.records.items; room = log.room; places = places_of log.rids } };
+    ghost view = { λ log. record {
+      records = log.records.items;
+      room = log.room;
+      places = places_of log.rids;
+      txns = length log.txns.items;
+    } };
 
-    ghost invariant = { λ log. IsKept log.records log.links log.txns log.rids log.room };
+    ghost invariant = { λ log. IsKept log.records log.links log.txns.items log.rids log.room };
 }
 
 fn is_number(place: Option<usize>, number: usize) -> bool
@@ -58,11 +63,12 @@ impl Log {
         ensures records { result.records ≡ [] }
         ensures room { result.room ≡ 0 }
         ensures places { result.places ≡ [] }
+        ensures txns { result.txns ≡ 0 }
     {
         Log {
             records: ChunkList::new(alloc),
             links: ChunkList::new(alloc),
-            txns: HashMap::new(alloc),
+            txns: ChunkList::new(alloc),
             rids: PageHeads::new(alloc),
             room: 0,
         }
@@ -75,6 +81,7 @@ impl Log {
         ensures room { self.old.room ≤ self.new.room }
         ensures exact { OnOk result (self.new.room ≡ max self.old.room additional) }
         ensures places { self.new.places ≡ self.old.places }
+        ensures txns { self.new.txns ≡ self.old.txns }
         ensures err { OnErr result (self.new ≡ self.old) }
         ensures memory { IfErr result (λ fault. fault ≡ Fault.Memory) }
         ensures succeeds { additional ≤ self.old.room → IsOk result }
@@ -84,7 +91,6 @@ impl Log {
         }
         self.records.reserve(additional)?;
         self.links.reserve(additional)?;
-        self.txns.reserve(additional)?;
         self.room = additional;
         Ok(())
     }
@@ -95,6 +101,7 @@ impl Log {
         ensures kept { KeepsPlaces self.old.places self.new.places }
         ensures room { OnOk result (self.new.room ≡ max self.old.room 1) }
         ensures records { self.new.records ≡ self.old.records }
+        ensures txns { self.new.txns ≡ self.old.txns }
         ensures err { OnErr result (self.new ≡ self.old) }
         ensures memory { IfErr result (λ fault. fault ≡ Fault.Memory) }
         ensures succeeds { 0 < self.old.room → HasPlace rid self.old.places → IsOk result }
@@ -102,10 +109,23 @@ impl Log {
         let room = self.room.max(1);
         self.records.reserve(room)?;
         self.links.reserve(room)?;
-        self.txns.reserve(room)?;
         self.rids.reserve_at(rid)?;
         self.room = room;
         Ok(())
+    }
+
+    /// Makes places for writes of the transactions up to that number. One that wrote has a place already.
+    pub fn reserve_txn(&mut self, txn: u64) -> Result<(), Fault>
+        ensures ok { OnOk result (txn < self.new.txns) }
+        ensures kept { self.old.txns ≤ self.new.txns }
+        ensures records { self.new.records ≡ self.old.records }
+        ensures room { self.new.room ≡ self.old.room }
+        ensures places { self.new.places ≡ self.old.places }
+        ensures err { OnErr result (self.new ≡ self.old) }
+        ensures memory { IfErr result (λ fault. fault ≡ Fault.Memory) }
+        ensures succeeds { txn < self.old.txns → IsOk result }
+    {
+        reserve_txn(&mut self.txns, txn)
     }
 
     /// Does nothing: its clause tells what every log keeps.
@@ -192,10 +212,11 @@ impl Log {
     pub fn add(&mut self, added: LogRec)
         requires room { 0 < self.old.room }
         requires earlier { NamesEarlier (length self.old.records) added }
-        requires place { HasPlaceFor added self.old.places }
+        requires place { HasPlaceFor added self.old.places self.old.txns }
         ensures added { Added self.old.records added self.new.records }
         ensures room { self.new.room + 1 ≡ self.old.room }
         ensures places { self.new.places ≡ self.old.places }
+        ensures txns { self.new.txns ≡ self.old.txns }
     {
         let link = self.link_of(&added);
         let heads = self.heads_after(&added);
@@ -260,6 +281,7 @@ impl Log {
         requires { NamesEarlier (length self.now.records) added.now }
         ensures heads { AreHeadsAfter self.now.records (self.now.records ++ added.now ∷ []) result }
         ensures rid { IfSome result (λ heads. changed_rid self.now.records added.now ≡ Some heads.rid) }
+        ensures by { IfSome result (λ heads. is_change_by heads.txn self.now.records added.now ≡ true) }
     {
         let number = self.records.len() + 1;
         match added {
@@ -302,6 +324,7 @@ impl Log {
         ensures heads { (txn : ℕ) → AreHeadsAfter self.now.records
             (self.now.records ++ LogRec.Undo txn number ∷ []) result }
         ensures rid { IfSome result (λ heads. place_of (record_at self.now.records number) ≡ Some heads.rid) }
+        ensures by { IfSome result (λ heads. is_write_of heads.txn (record_at self.now.records number) ≡ true) }
     {
         if self.links[number - 1].undone {
             return None;

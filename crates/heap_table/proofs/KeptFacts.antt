@@ -32,7 +32,7 @@ use Rattle.heap_table.proofs.LogRows.{slots_past, slot_past}
 use Rattle.heap_table.proofs.PageLists.{length_page_by, length_pages_by, get_or_page_by, get_or_pages_by, page_or_new_pages_by, slot_in_pages, slot_in_past}
 
 -- what a table keeps, told of its value
-pub kept_now : (h g : HeapValue) (p : PagesValue) → h ≡ g → IsKeptWithRoom h p → IsKept g.state p
+pub kept_now : {places ended : ℕ} (h g : HeapValue) (p : PagesValue) → h ≡ g → IsKeptWithRoom h p places ended → IsKept g.state p
 kept_now h g p is kept = subst (λ (x : HeapValue). IsKept x.state p) is kept.kept
 
 pub kept_count : (s : HeapState) (p : PagesValue) → IsKept s p → length p.pages ≡ pages_written s.log

@@ -2,6 +2,7 @@ pub mod Done
 pub mod Holding
 pub mod KeptChanges
 pub mod KeptFacts
+pub mod KeptTxns
 pub mod KeysAtRest
 pub mod LogRows
 pub mod OpenOnes

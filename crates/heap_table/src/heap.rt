@@ -36,6 +36,8 @@ pub struct Heap {
     begun: u64,
     fenced: bool,
     visits: u64,
+    /// Each write up to that record is of a transaction that has ended, so that nobody needs to look who wrote it.
+    ended: usize,
 }
 
 impl Drop for Heap {
@@ -50,6 +52,7 @@ impl Drop for Heap {
             begun: _,
             fenced: _,
             visits: _,
+            ended: _,
         } = self;
     }
 }
@@ -64,7 +67,7 @@ impl Model for Heap {
 
     ghost view = { heap_value };
 
-    ghost invariant = { λ h. IsKeptWithRoom (heap_value h) h.pages };
+    ghost invariant = { λ h. IsKeptWithRoom (heap_value h) h.pages h.log.txns h.ended };
 }
 
 impl Heap {
@@ -93,6 +96,7 @@ impl Heap {
             begun: 0,
             fenced: false,
             visits: 0,
+            ended: 0,
         })
     }
 

@@ -85,6 +85,7 @@ fn reserve_again(log: &mut Log, additional: usize) -> Result<(), Fault>
 fn reserve_at_again(log: &mut Log, rid: Rid) -> Result<(), Fault>
     ensures room { OnOk result (0 < log.new.room) }
     ensures place { OnOk result (HasPlace rid log.new.places) }
+    ensures txns { log.new.txns ≡ log.old.txns }
 {
     let last = log.last(rid);
     if log.reserve_at(rid).is_err() {
@@ -96,7 +97,22 @@ fn reserve_at_again(log: &mut Log, rid: Rid) -> Result<(), Fault>
     Ok(())
 }
 
+/// Makes places for the transaction's writes, once more where memory was refused, which has changed nothing.
+fn reserve_txn_again(log: &mut Log, txn: u64) -> Result<(), Fault>
+    ensures { OnOk result (txn < log.new.txns) }
+{
+    let newest = log.newest(txn);
+    if log.reserve_txn(txn).is_err() {
+        if log.newest(txn) != newest {
+            return Err(Fault::BadCount);
+        }
+        log.reserve_txn(txn)?;
+    }
+    Ok(())
+}
+
 fn delete(log: &mut Log, txn: u64, rid: Rid) -> Result<(), Fault> {
+    reserve_txn_again(log, txn)?;
     reserve_at_again(log, rid)?;
     log.add(LogRec::Write {
         txn,

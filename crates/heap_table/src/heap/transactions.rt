@@ -5,12 +5,13 @@ ghost use Rattle.heap_log.specs.Standing.{newest_standing};
 ghost use Rattle.heap_table.specs.Calls.{OnState, Begins, Commits, Notes};
 ghost use Rattle.heap_table.specs.HeapState.{is_open, is_ending, txn_refusal, held_refusal, begin_refusal, after_fence};
 ghost use Rattle.heap_table.specs.Holders.{holder};
+ghost use Rattle.heap_table.specs.Kept.{ended_to};
 ghost use Rattle.heap_table.specs.Pages.{KeepsRows};
 
 use super::Heap;
 use crate::changes::{end, settle_writes};
 use crate::{OPEN_MAX, OpenTxn};
-use heap_log::{LogRec, Outcome, Verdicts};
+use heap_log::{Log, LogRec, Outcome, Verdicts};
 use keybytes::{Fault, Rid};
 
 /// Whether the transaction is open.
@@ -25,6 +26,17 @@ fn has_ending(open_txns: &[OpenTxn], txn: u64) -> bool
     ensures { result ≡ is_ending open_txns.now txn }
 {
     open_txns.iter().any(|t| t.txn == txn && t.ending)
+}
+
+/// Up to which record each write is of a transaction that has ended: the last one, where none is open.
+fn ended_to(open_txns: &[OpenTxn], log: &Log, before: usize) -> usize
+    ensures { result ≡ ended_to open_txns.now log.now.records before }
+{
+    if open_txns.is_empty() {
+        log.len()
+    } else {
+        before
+    }
 }
 
 impl Heap {
@@ -48,8 +60,11 @@ impl Heap {
             return Err(Fault::TooManyTxns);
         }
         let txn = self.begun + 1;
+        self.log.reserve_txn(txn)?;
+        let ended = ended_to(&self.open_txns, &self.log, self.ended);
         self.open_txns.push(OpenTxn { txn, ending: false })?;
         self.begun = txn;
+        self.ended = ended;
         Ok(txn)
     }
 
@@ -104,6 +119,9 @@ impl Heap {
         ensures { result ≡ holder self.now.state.log rid }
     {
         let number = self.log.last(rid)?;
+        if number <= self.ended {
+            return None;
+        }
         let LogRec::Write { txn, .. } = self.log.rec(number) else {
             return None;
         };

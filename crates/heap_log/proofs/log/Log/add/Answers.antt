@@ -8,7 +8,7 @@ use Rattle.heap_log.specs.Places.{HasPlaceFor}
 use Rattle.heap_log.specs.Standing.{NamesEarlier}
 use Rattle.heap_log.proofs.Growing.{names_more}
 use Rattle.heap_log.proofs.Linked.{links_grow}
-use Rattle.heap_log.proofs.Placed.{change_numbered, change_placed}
+use Rattle.heap_log.proofs.Placed.{change_numbered, change_placed, change_by_placed}
 use Rattle.heap_log.proofs.log.Log.add.Goals as goal
 
 -- what one record more makes of the records, it makes of the log that contracts see
@@ -19,12 +19,22 @@ shown log seen new added same is adds = rw (← same, is) adds
 earlier : (log seen : List LogRec) (added : LogRec) → log ≡ seen → NamesEarlier (length seen) added → NamesEarlier (length log) added
 earlier log seen added same names = rw same names
 
+-- the places that contracts see are those of the fields
+placed_inside : (added : LogRec) (inside seen : LogValue) → inside ≡ seen → HasPlaceFor added seen.places seen.txns
+    → HasPlaceFor added inside.places inside.txns
+placed_inside added inside seen same place = subst (λ (v : LogValue). HasPlaceFor added v.places v.txns) (sym same) place
+
 pub set_rid_head-requires-clause-place : goal.set_rid_head-requires-clause-place
 set_rid_head-requires-clause-place c =
     let same = ap (λ (v : LogValue). v.records) c.self.view_is in
-    let places = ap (λ (v : LogValue). v.places) c.self.view_is in
-    change_placed c.self.inside.records.items c.self.inside.rids c.args.added c.heads_after-heads.result c.self.invariant.rids
-    (subst (HasPlaceFor c.args.added) (sym places) c.requires.place) (rw same c.heads_after-heads.ensures.rid)
+    change_placed c.self.inside.records.items c.self.inside.rids _ c.args.added c.heads_after-heads.result c.self.invariant.rids
+    (placed_inside c.args.added _ c.args.self.now c.self.view_is c.requires.place) (rw same c.heads_after-heads.ensures.rid)
+
+pub set_txn_head-requires : goal.set_txn_head-requires
+set_txn_head-requires c =
+    let same = ap (λ (v : LogValue). v.records) c.self.view_is in
+    change_by_placed c.self.inside.records.items c.self.inside.txns.items _ c.args.added c.heads_after-heads.result c.self.invariant.txns
+    (placed_inside c.args.added _ c.args.self.now c.self.view_is c.requires.place) (rw same c.heads_after-heads.ensures.by)
 
 pub set_rid_head-requires-clause-numbered : goal.set_rid_head-requires-clause-numbered
 set_rid_head-requires-clause-numbered c =
@@ -46,7 +56,6 @@ invariant_of-self c =
           ∙ sym (rw c.push_reserved.ensures.items (heads.rids rid));
       records_room = omega arith;
       links_room = omega arith;
-      txns_room = omega arith;
     }
 
 pub returns-clause-added : goal.returns-clause-added

@@ -4,9 +4,8 @@ use Rattle.heap_log.proofs.log.Log.reserve_at.Goals as goal
 pub invariant_of-self-2 : goal.invariant_of-self-2
 invariant_of-self-2 c = record {
   links = rw (c.in_ok-reserve.ensures.items, c.in_ok-reserve-2.ensures.items) c.self.invariant.links;
-  txns = λ txn. rw (c.in_ok-reserve-3.ensures.entries.2 txn, c.in_ok-reserve.ensures.items) (c.self.invariant.txns txn);
+  txns = λ txn. rw c.in_ok-reserve.ensures.items (c.self.invariant.txns txn);
   rids = λ rid. rw c.in_ok-reserve.ensures.items (c.in_ok-reserve_at.ensures.ok.heads rid ∙ c.self.invariant.rids rid);
   records_room = omega (arith, c.in_ok-reserve.ensures.ok);
   links_room = omega (arith, c.in_ok-reserve-2.ensures.ok);
-  txns_room = omega (arith, c.in_ok-reserve-3.ensures.ok);
 }

@@ -7,7 +7,8 @@ use Rattle.heap_table.specs.Holders.{wrote}
 use Rattle.heap_table.specs.Pages.{slots_written, pages_written, slot_of, KeepsRows}
 use Rattle.heap_table.proofs.LogRows.{keeps_commit, grown}
 use Rattle.heap_table.proofs.KeptChanges.{have_written, kept_commit}
-use Rattle.heap_table.proofs.OpenOnes.{open_accepted}
+use Rattle.heap_table.proofs.KeptTxns.{txns_added}
+use Rattle.heap_table.proofs.OpenOnes.{open_accepted, without_fewer}
 use Rattle.heap_table.proofs.Sounds.{wrote_still}
 use Rattle.heap_table.proofs.heap.Heap.commit.Goals as goal
 
@@ -30,6 +31,9 @@ invariant_of-self-2 c =
       kept = kept_commit _ _ c.self.inside.pages c.settle_writes.new.pages c.args.txn c.self.invariant.kept opened added c.end.ensures refl refl refl refl
           c.settle_writes.ensures.settled c.settle_writes.ensures.limit;
       room = omega (arith, c.settle_writes.ensures.spare, c.add.ensures.room, c.in_ok-reserve.ensures.exact, c.self.invariant.room);
+      txns = txns_added _ _ _ _ _ _ c.self.invariant.txns added.is
+          (λ txn e. without_fewer c.args.txn txn c.self.inside.open_txns.items (rw c.end.ensures at e))
+          (omega (arith, c.add.ensures.txns, c.in_ok-reserve.ensures.txns));
     }
 
 pub returns-clause-rows : goal.returns-clause-rows

@@ -1,4 +1,4 @@
-use Rattle.std.proofs.Common.{◌≡◌, ◌∙◌, Bool, true, Some, refl, sym, ap}
+use Rattle.std.proofs.Common.{◌≡◌, ◌∙◌, Bool, true, Some, refl, sym, ap, arith}
 use Rattle.std.specs.Bool.{then_some}
 use Rattle.std.proofs.lemmas.Bool.{eq-eqb}
 use Rattle.heap_log.specs.Standing.{record_at, is_write_of}
@@ -6,6 +6,7 @@ use Rattle.heap_table.specs.HeapState.{is_open}
 use Rattle.heap_table.specs.HeapValue.{HeapValue}
 use Rattle.heap_table.specs.Holders.{holder}
 use Rattle.heap_table.proofs.Holding.{holder_unwritten, holder_last, then_some_if}
+use Rattle.heap_table.proofs.KeptTxns.{nobody_holds}
 use Rattle.heap_table.proofs.heap.Heap.holder.Goals as goal
 
 pub returns-in_err-number : goal.returns-in_err-number
@@ -13,6 +14,12 @@ returns-in_err-number c =
     c.from_residual.ensures
     ∙ sym (ap (λ (h : HeapValue). holder h.state.log c.args.rid) (sym c.self.view_is)
     ∙ holder_unwritten _ c.self.invariant.kept.sound c.args.rid (sym c.in_err-number.ensures.value))
+
+pub returns-then-number-self : goal.returns-then-number-self
+returns-then-number-self c =
+    sym (ap (λ (h : HeapValue). holder h.state.log c.args.rid) (sym c.self.view_is)
+    ∙ nobody_holds _ _ _ c.args.rid c.in_ok-number.number c.self.invariant.kept.sound c.self.invariant.txns (sym c.in_ok-number.ensures.value)
+    (c.in_ok-number.ensures.write) (omega arith))
 
 pub returns : goal.returns
 returns c =

@@ -1,6 +1,8 @@
-use Rattle.std.proofs.Common.{◌≡◌, arith, true}
+use Rattle.std.proofs.Common.{◌≡◌, ◌∙◌, List, arith, true, sym, ap}
+use Rattle.std.proofs.lemmas.Bool.{false≢true}
 use Rattle.std.proofs.lemmas.Bool.Decides.{nat_tests}
-use Rattle.heap_table.specs.HeapState.{are_limits}
+use Rattle.heap_table.specs.HeapState.{are_limits, is_open}
+use Rattle.heap_table.specs.declared.open_txn.OpenTxn.{OpenTxn}
 use Rattle.heap_table.proofs.KeptChanges.{kept_empty}
 use Rattle.heap_table.proofs.heap.Heap.new.Goals as goal
 
@@ -10,4 +12,9 @@ invariant_of-result c =
     record {
       kept = kept_empty _ _ c.new.ensures.records c.new-3.ensures.items c.new-2.ensures.pages c.new-2.ensures.limit limits (omega arith);
       room = omega (arith, c.new.ensures.room);
+      txns = record {
+        placed = λ txn e. absurd (false≢true (sym (ap (λ (a : List OpenTxn). is_open a txn) c.new-3.ensures.items) ∙ e));
+        within = omega arith;
+        over = λ txn n low by. ap (λ (a : List OpenTxn). is_open a txn) c.new-3.ensures.items;
+      };
     }

@@ -7,6 +7,8 @@ use Rattle.heap_table.specs.Pages.{SetsRow}
 use Rattle.heap_log.proofs.Growing.{grows}
 use Rattle.heap_table.proofs.KeptFacts.{kept_now}
 use Rattle.heap_table.proofs.Done.{kept_undone, undone_inside, undone_sets}
+use Rattle.heap_table.proofs.KeptTxns.{txns_added}
+use Rattle.heap_table.proofs.OpenOnes.{still_fewer}
 use Rattle.heap_table.proofs.Performing.{can_restore, lawful_as, ready_inside}
 use Rattle.heap_table.proofs.heap.Heap.undo.Goals as goal
 
@@ -39,6 +41,7 @@ invariant_of-self c =
     let txn = c.args.ready.txn in
     let is_ready = ready_inside _ _ _ c.self.view_is c.requires.ready in
     let added = grows _ _ _ c.add.ensures.added in
+    let lawful = lawful_as _ c.args.ready (Some c.args.number) is_ready c.requires.undo in
     record {
       kept = kept_undone _ _ c.self.inside.pages c.undo_slot.new.pages c.go_on_ending.new.pages c.args.ready c.args.number is_ready c.self.invariant.kept
           c.requires.undo added
@@ -46,6 +49,9 @@ invariant_of-self c =
           c.undo_slot.ensures.pages c.undo_slot.ensures.limit
           (λ slot slots count limit is. rw (← c.standing-left.ensures) (c.go_on_ending.ensures.settled slot slots count limit is)) c.go_on_ending.ensures.limit;
       room = omega (arith, c.go_on_ending.ensures.spare, c.undo_slot.ensures.spare, c.add.ensures.room, c.self.invariant.room);
+      txns = txns_added _ _ _ _ _ _ c.self.invariant.txns added.is
+          (λ other e. still_fewer txn other c.standing-left.result c.self.inside.open_txns.items lawful.0 (rw c.go_on_ending.ensures.active at e))
+          (omega (arith, c.add.ensures.txns));
     }
 
 pub returns-clause-rows : goal.returns-clause-rows

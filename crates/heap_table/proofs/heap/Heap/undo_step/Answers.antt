@@ -1,4 +1,4 @@
-use Rattle.std.proofs.Common.{◌≡◌, ◌∙◌, ℕ, List, None, Ok, refl, sym, ap, subst}
+use Rattle.std.proofs.Common.{◌≡◌, ◌∙◌, ℕ, List, None, Ok, refl, sym, ap, subst, arith}
 use Rattle.heap_log.specs.Standing.{newest_standing}
 use Rattle.heap_table.specs.Calls.{Undoes}
 use Rattle.heap_table.specs.HeapState.{HeapState, after_step, undone_number, without}
@@ -6,6 +6,8 @@ use Rattle.heap_table.specs.HeapValue.{HeapValue}
 use Rattle.heap_table.specs.Inside.{heap_value}
 use Rattle.heap_table.specs.declared.open_txn.OpenTxn.{OpenTxn}
 use Rattle.heap_table.proofs.KeptChanges.{kept_same}
+use Rattle.heap_table.proofs.KeptTxns.{txns_same}
+use Rattle.heap_table.proofs.OpenOnes.{without_fewer}
 use Rattle.heap_table.proofs.Sounds.{sound_ended}
 use Rattle.heap_table.proofs.Holding.{none_standing}
 use Rattle.heap_table.proofs.heap.Heap.undo_step.Goals as goal
@@ -30,6 +32,8 @@ invariant_of-self c =
       kept = kept_same _ _ c.self.inside.pages c.self.inside.pages refl refl refl refl refl refl
           (sound_ended _ _ c.args.txn c.self.invariant.kept.sound refl c.end.ensures refl newest) c.self.invariant.kept;
       room = c.self.invariant.room;
+      txns = txns_same _ _ _ _ _ c.self.invariant.txns refl
+          (λ txn e. without_fewer c.args.txn txn c.self.inside.open_txns.items (rw c.end.ensures at e)) (omega arith);
     }
 
 pub returns-in_default-clause-undone : goal.returns-in_default-clause-undone
