@@ -18,7 +18,7 @@ use Rattle.build_events.specs.Workers.{all_entries, all_unapplied, all_unfed, fe
 use Rattle.building.specs.BuildingValue.{BuildingValue}
 use Rattle.live_lemmas.specs.Builds.{LiveValue, core_state}
 use Rattle.live_lemmas.specs.CatchingUp.{left_at, left_of, unapplied_at}
-use Rattle.live_lemmas.specs.Settling.{FeedsBatch, IsSettled, OnlyFeeds, entries_waiting, left_of_index, ring_at, ring_of, waiting_in}
+use Rattle.live_lemmas.specs.Settling.{FeedsBatch, FeedsEach, IsSettled, OnlyFeeds, entries_waiting, left_of_index, ring_at, ring_of, waiting_in}
 use Rattle.live_lemmas.proofs.ApplyCauses.{inside_of}
 use Rattle.live_lemmas.proofs.LeftOver.{all_left, left_before}
 use Rattle.page_workers.proofs.Places.{there_is}
@@ -97,6 +97,8 @@ pub record IsBeingFed (most index : ℕ) (s new : CoreState) : Type 0 where
   pub others : (k : ℕ) → index ≤ k → get_or list k 0 ≡ fed_to build k
   pub fed : ℕ
   pub counted : all_unfed (record build { fed = list }) s.live.heap.log + fed ≡ all_unfed build s.live.heap.log
+  -- of each of the first a batch was taken
+  pub each : (k : ℕ) → k < index → TakesMost most (left_of_index build s.live.heap.log k) (get_or list k 0 - fed_to build k)
   -- all that was left of the first was fed, or the most less a chunk
   pub many_fed : (most < fed + 1024) ⊎ (fed ≡ unfed_before index build s.live.heap.log)
   pub within : fed ≤ index * most
@@ -111,6 +113,7 @@ not_fed_yet most s b runs many = record {
   others = λ k less. refl;
   fed = 0;
   counted = omega arith;
+  each = λ k less. absurd (omega (arith, less));
   many_fed = inr refl;
   within = omega arith;
 }
@@ -180,6 +183,19 @@ module _ (most index : ℕ) (s mid : CoreState) (being : IsBeingFed most index s
               get_or-set_other being.list index k (fed_to now index + count) 0 (λ same. omega (arith, same, more)) ∙ being.others k (omega (arith, more));
           fed = being.fed + count;
           counted = omega (arith, sum, being.counted);
+          each = λ k more. elim (cases_lt k index) [
+            | inl earlier ↦
+                let other : get_or (set being.list index (fed_to now index + count)) k 0 ≡ get_or being.list k 0 =
+                get_or-set_other being.list index k (fed_to now index + count) 0 (λ same. omega (arith, same, earlier)) in
+                rw other (being.each k earlier)
+            | inr last ↦
+                let same : k ≡ index = omega (arith, more, last) in
+                let put : get_or (set being.list index (fed_to now index + count)) index 0 ≡ fed_to now index + count =
+                get_or-set_same being.list index (fed_to now index + count) 0 here in
+                let taken : get_or (set being.list index (fed_to now index + count)) index 0 - fed_to being.build index ≡ count =
+                omega (arith, put, its_place) in
+                rw (same, taken, ← left_was (slice_get being.build.specs index)) fed_so.1
+          ];
           many_fed = one_more_fed;
           within = omega (arith, one_more, fed_so.2, being.within);
         }
@@ -188,6 +204,15 @@ module _ (most index : ℕ) (s mid : CoreState) (being : IsBeingFed most index s
 module _ (most : ℕ) (live new_live : LiveValue) (building new : BuildingValue) (index : ℕ) (being : IsBeingFed most index (core_state live building) (core_state new_live new)) where
   pub only_feeds : OnlyFeeds (core_state live building) (core_state new_live new)
   only_feeds = record { build = being.build; runs = being.runs; fed = being.list; new_is = being.new_is }
+
+  pub feeds_each : length being.build.specs ≡ index → FeedsEach most (core_state live building) (core_state new_live new)
+  feeds_each all =
+      let each : (k : ℕ) → k < length being.build.specs
+      → TakesMost most (left_of_index being.build live.state.heap.log k) (get_or being.list k 0 - fed_to being.build k) =
+      λ k less. being.each k (omega (arith, less, all)) in
+      subst (λ (t : CoreState). FeedsEach most (core_state live building) t) (sym being.new_is)
+      (subst (λ (o : Option BuildState). OnBuild o (λ b. (k : ℕ) → k < length b.specs
+      → TakesMost most (left_of_index b live.state.heap.log k) (get_or being.list k 0 - fed_to b k))) (sym being.runs) each)
 
   state_is : new_live.state ≡ record live.state { build = Some (record being.build { fed = being.list }) }
   state_is = ap (λ (s : CoreState). s.live) being.new_is

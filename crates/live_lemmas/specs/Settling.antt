@@ -1,5 +1,5 @@
 -- How a build catches up beside its table: once all that was fed is applied, what is left is fed.
-use Rattle.std.specs.Prelude.{◌≡◌, ℕ, ◌+◌, ◌<◌, ◌≤◌, List, [], length, Option, Some, None}
+use Rattle.std.specs.Prelude.{◌≡◌, ℕ, ◌+◌, ◌-◌, ◌<◌, ◌≤◌, List, [], length, Option, Some, None}
 use Rattle.std.specs.List.{slice_get}
 use Rattle.chunk_list.specs.ChunkValue.{ChunkValue}
 use Rattle.heap_log.specs.declared.record.LogRec.{LogRec}
@@ -8,7 +8,7 @@ use Rattle.side_file.specs.Ends.{PutEnd}
 use Rattle.side_file.specs.declared.entry.Entry.{Entry}
 use Rattle.build_events.specs.BuildSteps.{OnBuild, after_feed}
 use Rattle.build_events.specs.CoreState.{BuildState, CoreState, LiveState}
-use Rattle.build_events.specs.Workers.{all_unfed, in_ring, unfed}
+use Rattle.build_events.specs.Workers.{all_unfed, fed_to, in_ring, unfed}
 use Rattle.live_lemmas.specs.Builds.{LiveValue}
 
 -- how many entries of a build's indexes were not fed yet
@@ -39,14 +39,19 @@ pub record OnlyFeeds (s new : CoreState) : Type 0 where
   pub fed : List ℕ
   pub new_is : new ≡ record s { live = record s.live { build = Some (record build { fed = fed }) } }
 
+-- how many entries of an index were not fed
+abbrev pub left_of_index : BuildState → List LogRec → ℕ → ℕ
+left_of_index b log index = unfed b log index (slice_get b.specs index)
+
+-- of each index the first entries that it had left were fed as a batch: all of them, or whole chunks, at most so many together
+abbrev pub FeedsEach : ℕ → CoreState → CoreState → Type 0
+FeedsEach most s new = OnBuild s.live.build (λ b. OnBuild new.live.build (λ after. (index : ℕ) → index < length b.specs
+    → TakesMost most (left_of_index b s.live.heap.log index) (fed_to after index - fed_to b index)))
+
 -- a queue into which a batch of so many entries can be moved by whole chunks
 pub record HasRoomForBatch (most : ℕ) (batch : ChunkValue Entry) : Type 0 where
   pub empty : batch.items ≡ []
   pub room : most + 2048 ≤ batch.room
-
--- how many entries of an index were not fed
-abbrev pub left_of_index : BuildState → List LogRec → ℕ → ℕ
-left_of_index b log index = unfed b log index (slice_get b.specs index)
 
 -- the first entries that an index had left were fed as a batch: all of them, or whole chunks, at most so many together
 abbrev pub FeedsBatch : ℕ → ℕ → CoreState → ℕ → CoreState → Type 0

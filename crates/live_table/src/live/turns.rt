@@ -7,7 +7,7 @@ ghost use Rattle.table_scan.specs.SideFiles.{side_refusal};
 ghost use Rattle.building.specs.BuildingValue.{BuildingValue};
 ghost use Rattle.live_lemmas.specs.Builds.{core_state, cause_of, StandsBeside};
 ghost use Rattle.live_lemmas.specs.CatchingUp.{MayCatchUp};
-ghost use Rattle.live_lemmas.specs.Settling.{FeedsBatch, HasFedBatch, HasRoomForBatch, IsSettled, OnlyFeeds, ring_at, waiting_in};
+ghost use Rattle.live_lemmas.specs.Settling.{FeedsBatch, FeedsEach, HasFedBatch, HasRoomForBatch, IsSettled, OnlyFeeds, ring_at, waiting_in};
 ghost use Rattle.live_lemmas.specs.Switching.{IsPartOf, KeepsOut};
 
 use crate::{Building, Live, TableRings};
@@ -112,6 +112,7 @@ impl<T: TableRings> Live<T> {
         requires room { All (HasRoomForBatch most) batches.items }
         ensures works { StandsBeside self.new building.new }
         ensures feeds { OnlyFeeds (core_state self.old building.old) (core_state self.new building.new) }
+        ensures each { FeedsEach most (core_state self.old building.old) (core_state self.new building.new) }
         ensures left { waiting_in self.new.state + result ≡ waiting_in self.old.state }
         ensures many { (most < result + 1024) ⊎ (result ≡ waiting_in self.old.state) }
         ensures within { OnBuild self.old.state.build (λ b. result ≤ length b.specs * most) }
