@@ -1,6 +1,6 @@
 -- What the steps of a build under the lock leave.
 use Rattle.std.proofs.Common.{◌≡◌, ◌≢◌, ℕ, ◌+◌, ◌≤◌, Bool, true, false, cond, List, [], ◌∷◌, ◌++◌, length, map, Option, Some, None, refl, sym, ap, ap₂, subst, ◌∙◌, inl, inr, arith}
-use Rattle.std.specs.Prelude.{IfSome, is_some, not}
+use Rattle.std.specs.Prelude.{IfSome, is_some, not, IsSome}
 use Rattle.std.specs.List.{list_all, slice_get}
 use Rattle.std.specs.Option.{option_map}
 use Rattle.std.proofs.lemmas.Bool.{cases_Bool}
@@ -9,7 +9,7 @@ use Rattle.keybytes.proofs.FirstCause.{both_none}
 use Rattle.keybytes.specs.Keys.{KeySpecValue}
 use Rattle.keybytes.specs.Schemas.{same_kinds}
 use Rattle.keybytes.specs.declared.fault.Fault.{Fault}
-use Rattle.keybytes.specs.declared.fault.Fault.TheVariants.{BadCount, BuildRunning, Memory, NotLoaded, NotScanned}
+use Rattle.keybytes.specs.declared.fault.Fault.TheVariants.{BadCount, BuildRunning, Busy, Memory, NotLoaded, NotScanned}
 use Rattle.keybytes.specs.declared.kind.Kind.{Kind}
 use Rattle.heap_log.specs.declared.outcome.Outcome.{Outcome}
 use Rattle.heap_log.specs.declared.record.LogRec.{LogRec}
@@ -313,4 +313,17 @@ switch_ends live new_live building new fault w runs fine works settled few (inr 
       subst (λ (specs : List KeySpecValue). EndsFor specs fault) (refused.part.of.specs ∙ ap (λ (x : WorkValue). x.specs) its)
       (ends_of b live.state.heap work none (near_by live building b refused.part.of.runs works settled few) fault why)
   | inr want ↦ ends_other w.specs fault (subst IsOther (sym want.1) other_memory)
+]
+
+-- a build whose switch waits for transactions runs on
+pub waits_running :
+    (live new_live : LiveValue) (building new : BuildingValue) (fault : Fault) (w : WorkValue) → building.work ≡ Some w → w.spoiled ≡ None
+    → RefusesSwitch live building fault new_live new → (count : ℕ) → fault ≡ Busy count → IsSome new_live.state.build
+waits_running live new_live building new fault w runs fine (inl out) count busy =
+    absurd ((kept_out true live building fault w runs fine out.cause).not_busy count busy)
+waits_running live new_live building new fault w runs fine (inr refused) count busy = elim refused.refused [
+  | inl cause ↦
+      let build : new_live.state.build ≡ Some refused.part.of.build = ap (λ (s : CoreState). s.live.build) cause.1 ∙ refused.part.of.runs in
+      subst IsSome (sym build) refl
+  | inr want ↦ let both = sym want.1 ∙ busy in absurd (cc)
 ]

@@ -1,7 +1,8 @@
 -- What a switch under the lock reports.
-use Rattle.std.proofs.Common.{◌≡◌, ℕ, ◌≤◌, List, [], ◌∷◌, ◌++◌, length, map, drop, Option, Some, None, refl, sym, ap, subst, ◌∙◌}
-use Rattle.std.specs.Prelude.{IfSome}
+use Rattle.std.proofs.Common.{◌≡◌, ℕ, ◌≤◌, Bool, true, List, [], ◌∷◌, ◌++◌, length, map, drop, Option, Some, None, refl, sym, ap, subst, ◌∙◌}
+use Rattle.std.specs.Prelude.{IfSome, IsSome}
 use Rattle.keybytes.specs.declared.fault.Fault.{Fault}
+use Rattle.keybytes.specs.declared.fault.Fault.TheVariants.{Busy}
 use Rattle.keybytes.specs.declared.pair.Pair.{Pair}
 use Rattle.heap_log.specs.declared.outcome.Outcome.{Outcome}
 use Rattle.heap_log.specs.declared.record.LogRec.{LogRec}
@@ -15,7 +16,7 @@ use Rattle.ready_indexes.specs.Indexes.{ReadyValue}
 use Rattle.crew.specs.MadeReady.{HasMadeReady}
 use Rattle.crew.specs.Reports.{EndsFor, IsReport}
 use Rattle.crew.proofs.Reported.{is_report}
-use Rattle.crew.proofs.Steps.{has_switched, switch_ends}
+use Rattle.crew.proofs.Steps.{has_switched, switch_ends, waits_running}
 
 -- what is so of work that there is
 pub of_work : (o : Option WorkValue) (P : WorkValue → Type 0) → ((w : WorkValue) → o ≡ Some w → P w) → IfSome o P
@@ -49,3 +50,12 @@ pub switch_ends_for :
 switch_ends_for live new_live building new fault works settled few refused =
     of_work building.work (λ w. w.spoiled ≡ None → EndsFor w.specs fault) (λ w runs fine.
     switch_ends live new_live building new fault w runs fine works settled few refused)
+
+-- where it waits for transactions, the fence that is set for a build that runs is set
+pub switch_fences :
+    (live new_live : LiveValue) (building new : BuildingValue) (fault : Fault) (fenced : Bool) → RefusesSwitch live building fault new_live new
+    → (IsSome new_live.state.build → (count : ℕ) → fault ≡ Busy count → fenced ≡ true)
+    → IfSome building.work (λ w. w.spoiled ≡ None → (count : ℕ) → fault ≡ Busy count → fenced ≡ true)
+switch_fences live new_live building new fault fenced refused sets =
+    of_work building.work (λ w. w.spoiled ≡ None → (count : ℕ) → fault ≡ Busy count → fenced ≡ true) (λ w runs fine count busy.
+    sets (waits_running live new_live building new fault w runs fine refused count busy) count busy)

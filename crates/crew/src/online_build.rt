@@ -1,5 +1,5 @@
 //! A build from its start to its switch.
-ghost use Rattle.std.specs.Prelude.{◌≡◌, ◌≢◌, ℕ, [], All, length, map, IfErr, IfOk};
+ghost use Rattle.std.specs.Prelude.{◌≡◌, ◌≢◌, ℕ, [], All, length, map, None, false, IfErr, IfOk};
 ghost use Rattle.keybytes.specs.declared.fault.Fault.{Fault};
 ghost use Rattle.building.specs.Lent.{CanLend};
 ghost use Rattle.crew.specs.Reports.{EndsFor, HasUnique, IsReport, lists_in};
@@ -57,6 +57,7 @@ where
     R: Threads + Wait + Sync,
     ensures report { IfOk result.2 (λ report. IsReport T.opening plan.now.specs.items report.receipt report.verdicts (lists_in report.pairs)) }
     ensures bounded { IfOk result.2 (λ report. IsBounded (length plan.now.specs.items) (length report.receipt) report.caught_up) }
+    ensures unasked { plan.now.keep_pairs ≡ false → IfOk result.2 (λ report. report.pairs ≡ None) }
     ensures not_empty { IfErr result.2 (λ fault. fault.0 ≡ Fault.SpoolNotEmpty
         → All (λ spool. (S.runs spool ≡ []) × (S.open_run spool ≡ [])) spools.items → ⊥) }
     ensures busy { IfErr result.2 (λ fault. (count : ℕ) → fault.0 ≡ Fault.Busy count → HasUnique plan.now.specs.items) }
@@ -89,6 +90,7 @@ where
     R: Threads + Wait + Sync,
     ensures report { IfOk result.1 (λ report. IsReport T.opening plan.now.specs.items report.receipt report.verdicts (lists_in report.pairs)) }
     ensures bounded { IfOk result.1 (λ report. IsBounded (length plan.now.specs.items) (length report.receipt) report.caught_up) }
+    ensures unasked { plan.now.keep_pairs ≡ false → IfOk result.1 (λ report. report.pairs ≡ None) }
     ensures not_empty { IfErr result.1 (λ fault. fault ≡ Fault.SpoolNotEmpty → HasPairsLeft building) }
     ensures busy { IfErr result.1 (λ fault. (count : ℕ) → fault ≡ Fault.Busy count → HasUnique plan.now.specs.items) }
     ensures never_behind { IfErr result.1 (λ fault. (left : ℕ) → fault ≢ Fault.Behind left) }
@@ -135,6 +137,7 @@ where
     requires goes_on { GoesOnWith 0 plan.now.specs.items building }
     ensures report { IfOk result.1 (λ report. IsReport T.opening plan.now.specs.items report.receipt report.verdicts (lists_in report.pairs)) }
     ensures bounded { IfOk result.1 (λ report. IsBounded (length plan.now.specs.items) (length report.receipt) report.caught_up) }
+    ensures unasked { plan.now.keep_pairs ≡ false → IfOk result.1 (λ report. report.pairs ≡ None) }
     ensures ends { IfErr result.1 (EndsFor plan.now.specs.items) }
     ensures stakes { stakes_beside result.0 ≡ stakes_beside building }
 {
@@ -165,6 +168,7 @@ where
     requires scans { StillScans building }
     ensures report { IfOk result.1 (λ report. IsReport T.opening plan.now.specs.items report.receipt report.verdicts (lists_in report.pairs)) }
     ensures bounded { IfOk result.1 (λ report. IsBounded (length plan.now.specs.items) (length report.receipt) report.caught_up) }
+    ensures unasked { plan.now.keep_pairs ≡ false → IfOk result.1 (λ report. report.pairs ≡ None) }
     ensures ends { IfErr result.1 (EndsFor plan.now.specs.items) }
     ensures stakes { stakes_beside result.0 ≡ stakes_beside building }
 {
@@ -198,6 +202,7 @@ where
     requires { GoesOnWith (length plan.now.specs.items) plan.now.specs.items building.old }
     ensures report { IfOk result (λ report. IsReport T.opening plan.now.specs.items report.receipt report.verdicts (lists_in report.pairs)) }
     ensures bounded { IfOk result (λ report. IsBounded (length plan.now.specs.items) (length report.receipt) report.caught_up) }
+    ensures unasked { plan.now.keep_pairs ≡ false → IfOk result (λ report. report.pairs ≡ None) }
     ensures ends { IfErr result (EndsFor plan.now.specs.items) }
     ensures stakes { stakes_beside building.new ≡ stakes_beside building.old }
 {
@@ -228,6 +233,7 @@ where
     requires { GoesOnWith (length plan.now.specs.items) plan.now.specs.items building.old }
     ensures report { IfOk result (λ report. IsReport T.opening plan.now.specs.items report.receipt report.verdicts (lists_in report.pairs)) }
     ensures bounded { IfOk result (λ report. IsBounded (length plan.now.specs.items) (length report.receipt) report.caught_up) }
+    ensures unasked { plan.now.keep_pairs ≡ false → IfOk result (λ report. report.pairs ≡ None) }
     ensures goes_on { IfErr result (λ fault. (count : ℕ) → fault ≡ Fault.Busy count
         → GoesOnWith (length plan.now.specs.items) plan.now.specs.items building.new) }
     ensures ends { IfErr result (EndsFor plan.now.specs.items) }

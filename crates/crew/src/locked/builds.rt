@@ -1,5 +1,5 @@
 //! The steps of a build that are done under the lock.
-ghost use Rattle.std.specs.Prelude.{◌≡◌, ◌≢◌, ℕ, ◌<◌, ◌≤◌, ◌+◌, ◌*◌, List, length, map, drop, Some, None, IfOk, IfErr, IfSome, IsSome, OnErr, OnOk, All};
+ghost use Rattle.std.specs.Prelude.{◌≡◌, ◌≢◌, ℕ, ◌<◌, ◌≤◌, ◌+◌, ◌*◌, List, length, map, drop, Some, None, true, false, IfOk, IfErr, IfSome, IsSome, OnErr, OnOk, All};
 ghost use Rattle.keybytes.specs.Keys.{KeySpecValue};
 ghost use Rattle.keybytes.specs.declared.fault.Fault.{Fault};
 ghost use Rattle.building.specs.IndexLoads.{CanLoadAll};
@@ -186,6 +186,7 @@ impl<T: Opened> Locked<T> {
             (λ w. IsReport T.opening w.specs report.receipt report.verdicts (lists_in report.pairs))) }
         ensures bounded { IfOk result (λ report. IsBounded (indexes_of_build self.old.state.build) (length report.receipt) report.caught_up) }
         ensures told { IfOk result (λ report. IfSome self.old.credit (λ credit. report.caught_up ≡ caught_up_by credit)) }
+        ensures unasked { keep_pairs ≡ false → IfOk result (λ report. report.pairs ≡ None) }
         ensures log { IfOk result (λ report. report.receipt ≡ self.new.state.heap.log) }
         ensures same { OnErr result (self.new.state.heap.log ≡ self.old.state.heap.log) }
         ensures credit { self.new.credit ≡ None }
@@ -193,6 +194,8 @@ impl<T: Opened> Locked<T> {
         ensures goes_on { IfErr result (λ fault. fault ≢ Fault.Memory
             → (count : ℕ) (specs : List KeySpecValue) → GoesOnWith count specs building.old → GoesOnWith count specs building.new) }
         ensures ends { IfErr result (λ fault. IfSome building.old.work (λ w. w.spoiled ≡ None → EndsFor w.specs fault)) }
+        ensures fenced { IfErr result (λ fault. IfSome building.old.work (λ w. w.spoiled ≡ None
+            → (count : ℕ) → fault ≡ Fault.Busy count → self.new.state.heap.fenced ≡ true)) }
     {
         let caught_up = self.caught_up();
         self.credit = None;
@@ -221,6 +224,7 @@ impl<T: Opened> Locked<T> {
     fn fence_if_busy(&mut self, fault: Fault)
         ensures log { self.new.state.heap.log ≡ self.old.state.heap.log }
         ensures credit { self.new.credit ≡ self.old.credit }
+        ensures fenced { IsSome self.old.state.build → (count : ℕ) → fault ≡ Fault.Busy count → self.new.state.heap.fenced ≡ true }
     {
         if let Fault::Busy(_) = fault {
             let _fenced = self.live.fence();
@@ -229,7 +233,8 @@ impl<T: Opened> Locked<T> {
 
     /// Copies of the pairs of the ready indexes from that number on, if they are asked for and memory is there.
     fn pairs_from(&self, alloc: Global, keep_pairs: bool, first: usize) -> Option<Vec<Vec<Pair>>>
-        ensures { IfSome (lists_in result) (λ lists. lists ≡ map (λ it. it.pairs) (drop first self.now.state.ready)) }
+        ensures kept { IfSome (lists_in result) (λ lists. lists ≡ map (λ it. it.pairs) (drop first self.now.state.ready)) }
+        ensures unasked { keep_pairs ≡ false → result ≡ None }
     {
         if !keep_pairs {
             return None;

@@ -1,5 +1,5 @@
 //! The turns of a build that catches up with those who write.
-ghost use Rattle.std.specs.Prelude.{◌≡◌, ℕ, ◌+◌, ◌≤◌, ◌^◌, ◌<◌, All, length, None, IfOk, IfErr, IfSome};
+ghost use Rattle.std.specs.Prelude.{◌≡◌, ℕ, ◌+◌, ◌≤◌, ◌^◌, ◌<◌, All, length, None, false, IfOk, IfErr, IfSome};
 ghost use Rattle.live_lemmas.specs.Settling.{HasRoomForBatch};
 ghost use Rattle.crew.specs.Credits.{IsBounded, TakesMore, caught_up_by};
 ghost use Rattle.crew.specs.Places.{GoesOnWith, stakes_beside};
@@ -55,6 +55,7 @@ where
     requires { GoesOnWith (length plan.now.specs.items) plan.now.specs.items building.old }
     ensures report { IfOk result (λ report. IsReport T.opening plan.now.specs.items report.receipt report.verdicts (lists_in report.pairs)) }
     ensures bounded { IfOk result (λ report. IsBounded (length plan.now.specs.items) (length report.receipt) report.caught_up) }
+    ensures unasked { plan.now.keep_pairs ≡ false → IfOk result (λ report. report.pairs ≡ None) }
     ensures waited { IfOk result (λ report. report.caught_up.waited ≡ credit.first) }
     ensures goes_on { IfErr result (λ fault. (count : ℕ) → fault ≡ Fault.Busy count
         → GoesOnWith (length plan.now.specs.items) plan.now.specs.items building.new) }
@@ -87,6 +88,7 @@ where
     ensures report { IfOk result (λ told. IfSome told (λ report.
         IsReport T.opening plan.now.specs.items report.receipt report.verdicts (lists_in report.pairs))) }
     ensures bounded { IfOk result (λ told. IfSome told (λ report. IsBounded (length plan.now.specs.items) (length report.receipt) report.caught_up)) }
+    ensures unasked { plan.now.keep_pairs ≡ false → IfOk result (λ told. IfSome told (λ report. report.pairs ≡ None)) }
     ensures told { IfOk result (λ told. IfSome told (λ report. report.caught_up ≡ caught_up_by known.old)) }
     ensures goes_on { IfErr result (λ fault. (count : ℕ) → fault ≡ Fault.Busy count
         → GoesOnWith (length plan.now.specs.items) plan.now.specs.items building.new) }

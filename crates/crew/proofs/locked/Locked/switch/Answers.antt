@@ -9,7 +9,7 @@ use Rattle.crew.specs.Credits.{LockedValue, live_in}
 use Rattle.crew.proofs.MadeReady.{switched_more}
 use Rattle.crew.proofs.Steps.{still_goes_on, switch_left}
 use Rattle.crew.specs.Reports.{lists_in}
-use Rattle.crew.proofs.Switching.{switch_ends_for, switched_report}
+use Rattle.crew.proofs.Switching.{switch_ends_for, switch_fences, switched_report}
 use Rattle.crew.proofs.locked.Locked.switch.Goals as goal
 
 pub returns-in-Ok-clause-report : goal.returns-in-Ok-clause-report
@@ -17,7 +17,7 @@ returns-in-Ok-clause-report g c =
     switched_report c.self.inside.live c.switch_in.new.self c.args.building.now c.switch_in.new.building c.in-Ok.switched.number c.in-Ok.switched.verdicts c.in-Ok.switched.record
     c.self.inside.keeper c.new-receipt.result c.in-Ok.ensures.all.0 c.in-Ok.ensures.switched c.in-Ok.ensures.record c.self.invariant.0
     (c.new-receipt.ensures ∙ c.tell.ensures.told ∙ c.append.ensures) g.T.Opened.opening c.self.invariant.2
-    c.len-first.result (lists_in c.pairs_from-pairs.result) (c.len-first.ensures ∙ ap length c.ready.ensures.ready) c.pairs_from-pairs.ensures
+    c.len-first.result (lists_in c.pairs_from-pairs.result) (c.len-first.ensures ∙ ap length c.ready.ensures.ready) c.pairs_from-pairs.ensures.kept
 
 pub returns-in-Err-clause-stakes : goal.returns-in-Err-clause-stakes
 returns-in-Err-clause-stakes g c =
@@ -33,6 +33,11 @@ returns-in-Err-clause-ends g c =
     let settled = subst (λ (l : LockedValue). IsSettled (core_state (live_in l) c.args.building.now)) (sym c.self.view_is) c.requires.settled.settled in
     let few = subst (λ (l : LockedValue). waiting_in l.state ≤ 1024) (sym c.self.view_is) c.requires.few in
     switch_ends_for c.self.inside.live c.switch_in.new.self c.args.building.now c.switch_in.new.building c.in-Err.fault works settled few c.in-Err.ensures.refused
+
+pub returns-in-Err-clause-fenced : goal.returns-in-Err-clause-fenced
+returns-in-Err-clause-fenced g c =
+    switch_fences c.self.inside.live c.switch_in.new.self c.args.building.now c.switch_in.new.building c.in-Err.fault _ c.in-Err.ensures.refused
+    c.fence_if_busy.ensures.fenced
 
 pub invariant_of-self-in-Err : goal.invariant_of-self-in-Err
 invariant_of-self-in-Err g c =
