@@ -71,7 +71,7 @@ static BACKLOG: [Meeting; 2] = [
 ];
 
 /// Two indexes and two workers, beside a session that inserts before the build catches up.
-static LATE: Meeting = Meeting {
+const LATE: Meeting = Meeting {
     script: "table,255,int,int
 start,2,4,even:2,n:0,n:1
 ",
