@@ -1,9 +1,13 @@
 -- How many indexes a table made ready since it was opened.
-use Rattle.std.proofs.Common.{◌≡◌, ℕ, ◌+◌, cond, List, [], ◌∷◌, ◌++◌, length, map, Option, Some, None, length-append, append-nil, append_assoc, refl, sym, ap, ◌∙◌, arith}
-use Rattle.std.specs.Prelude.{count_by}
+use Rattle.std.proofs.Common.{◌≡◌, ℕ, zero, suc, ◌+◌, ◌<◌, ◌≤◌, Bool, cond, List, [], ◌∷◌, ◌++◌, length, map, Option, Some, None, Result, Ok, Err, length-append, append-nil, append_assoc, refl, sym, ap, ◌∙◌, inl, inr, arith}
+use Rattle.std.specs.Prelude.{count_by, IfErr, OnOk}
+use Rattle.std.specs.List.{slice_get}
+use Rattle.std.proofs.lemmas.Bool.{le-ltb, lt-ltb}
 use Rattle.std.proofs.lemmas.List.{length-map}
 use Rattle.std.proofs.lemmas.List.Sums.{sum_by-cons, sum_by_push}
 use Rattle.keybytes.specs.Keys.{KeySpecValue}
+use Rattle.keybytes.specs.declared.fault.Fault.{Fault}
+use Rattle.keybytes.specs.declared.fault.Fault.TheVariants.{BadCount, Memory}
 use Rattle.heap_table.specs.HeapState.{HeapState, after_step}
 use Rattle.heap_log.specs.declared.outcome.Outcome.{Outcome}
 use Rattle.heap_log.specs.declared.outcome.Outcome.TheVariants.{Ready}
@@ -18,7 +22,7 @@ use Rattle.build_events.specs.CoreState.{CoreState, LiveState}
 use Rattle.build_events.specs.Verdicts.{accepted, next_number, outcome, outcomes, verdict_on}
 use Rattle.live_lemmas.specs.Builds.{LiveValue, core_state}
 use Rattle.building.specs.BuildingValue.{BuildingValue}
-use Rattle.crew.specs.MadeReady.{HasMadeReady, is_ready, ready_by}
+use Rattle.crew.specs.MadeReady.{HasIndex, HasMadeReady, LacksIndex, is_ready, ready_by}
 use Rattle.crew.proofs.Steps.{on_build}
 
 -- none, where nothing was written
@@ -104,3 +108,23 @@ undo_made opening old new txn None heap ready had =
     let many : length new.ready ≡ length old.ready =
     ap length ready ∙ length-map old.ready (λ (index : ReadyValue). index_now new.heap.log index.spec) in
     record { since = had.since; goes_on = log ∙ had.goes_on; counted = many ∙ had.counted }
+
+-- A copy of a ready index, by its number.
+module _ (opening log : List LogRec) (ready number : ℕ) (made : HasMadeReady opening log ready) where
+  pub has_index : {X : Type 0} (result : Result X Fault) → number < ready → OnOk result (HasIndex opening log number)
+  has_index (Ok copy) within = (ready, made, within)
+  has_index (Err fault) within = tt
+
+  -- of one that is there only memory may be wanted
+  pub lacks_memory :
+      {X : Type 0} (result : Result X Fault) → number < ready → IfErr result (λ fault. fault ≡ Memory) → IfErr result (LacksIndex opening log number)
+  lacks_memory (Ok copy) within memory = tt
+  lacks_memory (Err fault) within memory = (ready, made, inr (ap (λ (less : Bool). cond less None (Some BadCount)) (lt-ltb number ready within), memory))
+
+  pub lacks_index : ready ≤ number → LacksIndex opening log number BadCount
+  lacks_index past = (ready, made, inl (ap (λ (less : Bool). cond less None (Some BadCount)) (le-ltb number ready past)))
+
+pub past_end : {X : Type 0} (xs : List X) (i : ℕ) → slice_get xs i ≡ None → length xs ≤ i
+past_end [] i none = omega arith
+past_end (x ∷ xs) zero none = absurd (cc (none))
+past_end (x ∷ xs) (suc i) none = let rest = past_end xs i none in omega (arith, rest)

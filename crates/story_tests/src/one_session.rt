@@ -3,6 +3,7 @@
 use crate::meetings::{Meeting, WHOLE, expect};
 use crate::programs::{IDLE, Program};
 use crate::rows::{Rows, SEVEN};
+use crate::watch::{FREE, Holds};
 use keybytes::Fault;
 
 /// A session inserts a row, reads it, deletes it, finds it no more, and takes that back. A transaction without a write
@@ -118,7 +119,21 @@ pairs,1
     ..WHOLE
 }];
 
-/// A build of a unique index that waits in vain for a transaction, and then lifts the fence.
+/// A transaction that a build keeps from beginning.
+pub static FENCED: Program = Program {
+    behind: "table,2,int,int
+begin,A
+",
+    answers: "1,ok
+2,refused,27,Fenced
+",
+    is_asked: true,
+    is_fenced: true,
+    ..IDLE
+};
+
+/// A build of a unique index that waits in vain for a transaction, by two tries of its switch, and then lifts the fence. Between the
+/// tries no other transaction begins.
 static IN_VAIN: [Meeting; 1] = [Meeting {
     script: "table,2,int,int
 start,1,4,even:1,u:0
@@ -145,8 +160,15 @@ begin,3
 ",
         ..IDLE
     },
+    holds: &Holds {
+        backlog: 1,
+        asking_try: 2,
+        ..FREE
+    },
+    place: 5,
     further: 1,
     told: Err(Fault::Busy(1)),
+    seen: &[15, 4, 0, 1, 0, 1, 0, 2],
     ..WHOLE
 }];
 

@@ -34,6 +34,8 @@ pub struct Program {
     pub is_denied: bool,
     /// Whether there is a round whenever a thread of the build asks for it, until the build has returned.
     pub is_asked: bool,
+    /// Whether a build that tries its switch once more keeps it from beginning, so that it is told that.
+    pub is_fenced: bool,
 }
 
 /// Nothing.
@@ -46,6 +48,7 @@ pub const IDLE: Program = Program {
     is_short: false,
     is_denied: false,
     is_asked: false,
+    is_fenced: false,
 };
 
 /// A session's transaction, by the answers that it got.
@@ -129,8 +132,8 @@ fn txn_in(command: &Command) -> u64 {
     }
 }
 
-/// What a session is answered, once a build lets it begin. What is refused for want of memory is asked for once more
-/// where it may run out.
+/// What a session is answered, once a build lets it begin, unless it is to be told that one doesn't. What is refused for want of
+/// memory is asked for once more where it may run out.
 fn answer<T: Opened, R: Wait>(
     rt: &R,
     alloc: Global,
@@ -138,12 +141,12 @@ fn answer<T: Opened, R: Wait>(
     receipts: &mut Vec<Receipt<T>>,
     txn: u64,
     command: &Command,
-    is_short: bool,
+    program: &Program,
 ) -> Answer {
-    let mut may_be_short = is_short;
+    let mut may_be_short = program.is_short;
     for _ in rt.forever() {
         match session_answer(rt, alloc, session, receipts, txn, command) {
-            Err(Fault::Fenced) => thread::yield_now(),
+            Err(Fault::Fenced) if !program.is_fenced => thread::yield_now(),
             Err(Fault::Memory) if may_be_short => may_be_short = false,
             Err(fault) => return Answer::Refused { fault },
             Ok(answer) => return answer,
@@ -180,7 +183,7 @@ fn goes_round<T: Opened, R: Wait>(
     for record in &script.commands {
         let command = &record.command;
         let txn = txn_in(command).max(course.txn);
-        let answer = answer(rt, alloc, session, receipts, txn, command, program.is_short);
+        let answer = answer(rt, alloc, session, receipts, txn, command, program);
         let is_so = if program.answers.is_empty() {
             course.is_answer(command, &answer)
         } else {
@@ -237,9 +240,13 @@ fn goes_beside<T: Opened, R: Wait>(
     false
 }
 
-/// Whether the table tells that entries wait, and that its pages are being copied, or that it is about to catch up.
-fn is_asking<T: Opened, R: Wait>(rt: &R, table: &Table<T>) -> bool {
+/// Whether the table tells that entries wait, and that its pages are being copied, or that it is about to catch up; or else that the
+/// switch waited for a transaction, and is to be tried again.
+fn is_asking<T: Opened, R: Wait>(rt: &R, table: &Table<T>, program: &Program) -> bool {
     let progress = table.progress(rt);
+    if program.is_fenced {
+        return progress.phase == Phase::CatchingUp && progress.tries == 2 && progress.busy == 1;
+    }
     let is_where = match progress.phase {
         Phase::Scanning => progress.pages == 56 && progress.scanned > 0 && progress.loaded == 0,
         Phase::CatchingUp => progress.tries == 1 && progress.loaded > 0,
@@ -262,7 +269,7 @@ fn goes_when_asked<T: Opened, R: Wait>(
         let next = watch.answered.load(Ordering::SeqCst).saturating_add(1);
         if next <= watch.asked.load(Ordering::SeqCst) {
             if !does_round(rt, alloc, session, receipts, program, program.behind, 0)
-                || !is_asking(rt, table)
+                || !is_asking(rt, table, program)
             {
                 return false;
             }

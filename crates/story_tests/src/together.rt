@@ -1,6 +1,7 @@
 //! Sessions that meet on a table, and a build beside them.
 
 use crate::meetings::{Meeting, WHOLE, expect, is_so, outcome};
+use crate::one_session::FENCED;
 use crate::overlapping::ROW;
 use crate::place::NO_FAULT;
 use crate::programs::{IDLE, Program};
@@ -18,6 +19,7 @@ pub fn program_of(place: usize) -> &'static Program {
         8..=11 => &WANTS,
         12 => &TURNS,
         16 => &ROW,
+        20 => &FENCED,
         _ => &NOTHING,
     }
 }

@@ -33,8 +33,9 @@ pub struct Holds {
     /// Whether who is held asks for an insert, and goes on only once the session has begun one since and has its
     /// answer.
     pub is_asking: bool,
-    /// For how many rounds of a session the first try of the switch asks, before the build catches up.
+    /// For how many rounds of a session a try of the switch asks, before the build catches up, and which try.
     pub backlog: u64,
+    pub asking_try: u32,
 }
 
 /// Nobody is held.
@@ -43,6 +44,7 @@ pub const FREE: Holds = Holds {
     yields: 0,
     is_asking: false,
     backlog: 0,
+    asking_try: 1,
 };
 
 /// Keeps what is told, and holds either worker at its first page.
@@ -52,6 +54,7 @@ pub struct Watch {
     yields: u32,
     is_asking: bool,
     backlog: u64,
+    asking_try: u32,
     /// Whether ranges are dealt to the threads of the workers.
     is_dealt: bool,
     counts: [AtomicU64; 8],
@@ -70,6 +73,7 @@ impl Watch {
             yields: holds.yields,
             is_asking: holds.is_asking,
             backlog: holds.backlog,
+            asking_try: holds.asking_try,
             is_dealt,
             counts: [
                 AtomicU64::new(0),
@@ -171,7 +175,7 @@ impl Gate for Watch {
             }
             Point::Try { n } => {
                 self.add(TRIES, 1);
-                if n == 1 && self.backlog > 0 {
+                if n == self.asking_try && self.backlog > 0 {
                     self.hold_for_backlog();
                 }
             }

@@ -1,7 +1,9 @@
 //! The workers of a build in threads of their own.
-ghost use Rattle.std.specs.Prelude.{◌≡◌, ◌≤◌, ◌+◌, ◌++◌, [], map, length, None, Some, IfErr, IfSome, vec_len, vec_capacity};
+ghost use Rattle.std.specs.Prelude.{◌≡◌, ◌≤◌, ◌+◌, ◌++◌, [], map, All, None, Some, IfErr, IfSome, OnOk, vec_len, vec_capacity};
+ghost use Rattle.keybytes.specs.declared.fault.Fault.{Fault};
 ghost use Rattle.crew.specs.Reports.{IsOther};
 ghost use Rattle.crew.specs.Places.{place_of, places_of};
+ghost use Rattle.crew.specs.Returning.{first_fault};
 
 use crate::online_build::comes_back::{ComesBack, Returned};
 use crate::online_build::range_queue::RangeQueue;
@@ -80,50 +82,84 @@ fn start<
     (handles, workers)
 }
 
-/// Waits for each thread. The workers that had none come behind, and count as refused for want of memory. The fault is the lowest worker's.
+/// Waits for each thread, in the order of the workers.
 fn join_all<S: Spool, R: Threads>(
     rt: &R,
     handles: Vec<PromisedHandle<Returned<S>, ComesBack<S>>>,
-    rest: Vec<Worker<S>>,
-    mut back: Vec<Worker<S>>,
-) -> (Vec<Worker<S>>, Result<(), Fault>)
-    requires none { back.items ≡ [] }
-    requires room { vec_len handles + vec_len rest ≤ vec_capacity back }
-    ensures back { places_of result.0.items ≡ map (λ handle. place_of handle.promise.worker.value) handles.items ++ places_of rest.items }
-    ensures other { IfErr result.1 IsOther }
+    back: &mut Vec<Returned<S>>,
+)
+    requires none { back.old.items ≡ [] }
+    requires room { vec_len handles ≤ vec_capacity back.old }
+    ensures back { map (λ one. place_of one.worker) back.new.items ≡ map (λ handle. place_of handle.promise.worker.value) handles.items }
+    ensures other { All (λ one. IfSome one.fault IsOther) back.new.items }
+    ensures many { vec_len back.new ≡ vec_len handles }
+    ensures room { vec_capacity back.new ≡ vec_capacity back.old }
 {
-    let mut lowest = Ok(());
     for handle in handles {
-        let Returned { worker, fault } = handle.join(rt);
-        lowest = first_of(lowest, fault);
-        back.push_reserved(worker);
+        back.push_reserved(handle.join(rt));
     }
-    if !rest.is_empty() {
-        lowest = first_of(lowest, Some(Fault::Memory));
-    }
-    put_behind(&mut back, rest);
-    (back, lowest)
 }
 
-/// Puts the workers that had no thread behind the others. There is room for them.
-fn put_behind<S: Spool>(back: &mut Vec<Worker<S>>, rest: Vec<Worker<S>>)
-    requires { vec_len back.old + vec_len rest ≤ vec_capacity back.old }
-    ensures { back.new.items ≡ back.old.items ++ rest.items }
+/// Puts the workers that had no thread behind the others, each as refused for want of memory. There is room for them.
+fn put_behind<S: Spool>(rest: Vec<Worker<S>>, back: &mut Vec<Returned<S>>)
+    requires room { vec_len back.old + vec_len rest ≤ vec_capacity back.old }
+    requires other { All (λ one. IfSome one.fault IsOther) back.old.items }
+    ensures back { map (λ one. place_of one.worker) back.new.items ≡ map (λ one. place_of one.worker) back.old.items ++ places_of rest.items }
+    ensures faults { map (λ one. one.fault) back.new.items ≡ map (λ one. one.fault) back.old.items ++ map (λ worker. Some Fault.Memory) rest.items }
+    ensures other { All (λ one. IfSome one.fault IsOther) back.new.items }
+    ensures many { vec_len back.new ≡ vec_len back.old + vec_len rest }
 {
     for worker in rest {
-        back.push_reserved(worker);
+        back.push_reserved(Returned {
+            worker,
+            fault: Some(Fault::Memory),
+        });
     }
 }
 
-/// The fault that was there, or else this one.
-fn first_of(lowest: Result<(), Fault>, fault: Option<Fault>) -> Result<(), Fault>
-    requires lowest { IfErr lowest IsOther }
-    requires fault { IfSome fault IsOther }
-    ensures { IfErr result IsOther }
+/// The fault of the lowest worker that was stopped, if one was.
+fn lowest_fault<S: Spool>(back: &[Returned<S>]) -> Option<Fault>
+    ensures { result ≡ first_fault (map (λ one. one.fault) back.now) }
 {
-    match (lowest, fault) {
-        (Ok(()), Some(fault)) => Err(fault),
-        (lowest, _) => lowest,
+    for number in 0..back.len() {
+        let fault = back[number].fault;
+        if fault.is_some() {
+            return fault;
+        }
+    }
+    None
+}
+
+/// The workers alone, and the fault of the lowest that was stopped.
+fn told<S: Spool>(
+    back: Vec<Returned<S>>,
+    mut workers: Vec<Worker<S>>,
+) -> (Vec<Worker<S>>, Result<(), Fault>)
+    requires none { workers.items ≡ [] }
+    requires room { vec_len back ≤ vec_capacity workers }
+    requires other { All (λ one. IfSome one.fault IsOther) back.items }
+    ensures back { places_of result.0.items ≡ map (λ one. place_of one.worker) back.items }
+    ensures fine { OnOk result.1 (first_fault (map (λ one. one.fault) back.items) ≡ None) }
+    ensures lowest { IfErr result.1 (λ fault. first_fault (map (λ one. one.fault) back.items) ≡ Some fault) }
+    ensures other { IfErr result.1 IsOther }
+{
+    let lowest = lowest_fault(&back);
+    take_workers(back, &mut workers);
+    match lowest {
+        Some(fault) => (workers, Err(fault)),
+        None => (workers, Ok(())),
+    }
+}
+
+/// Takes the workers that came back, in their order.
+fn take_workers<S: Spool>(back: Vec<Returned<S>>, workers: &mut Vec<Worker<S>>)
+    requires none { workers.old.items ≡ [] }
+    requires room { vec_len back ≤ vec_capacity workers.old }
+    ensures { places_of workers.new.items ≡ map (λ one. place_of one.worker) back.items }
+{
+    for one in back {
+        let Returned { worker, fault: _ } = one;
+        workers.push_reserved(worker);
     }
 }
 
@@ -151,10 +187,13 @@ pub(crate) fn run_all<
     let Ok(back) = Vec::with_capacity(alloc, workers.len()) else {
         return (workers, Err(Fault::Memory));
     };
-    run_reserved(rt, alloc, table, queue, gate, workers, handles, back)
+    let Ok(home) = Vec::with_capacity(alloc, workers.len()) else {
+        return (workers, Err(Fault::Memory));
+    };
+    run_reserved(rt, alloc, table, queue, gate, workers, handles, back, home)
 }
 
-/// The same with room for the threads, and for the workers that come back.
+/// The same with room for the threads, and for what comes back from them.
 fn run_reserved<
     'e,
     S: Spool + Send + 'e,
@@ -169,10 +208,11 @@ fn run_reserved<
     gate: &'e G,
     workers: Vec<Worker<S>>,
     handles: Vec<PromisedHandle<Returned<S>, ComesBack<S>>>,
-    back: Vec<Worker<S>>,
+    back: Vec<Returned<S>>,
+    home: Vec<Worker<S>>,
 ) -> (Vec<Worker<S>>, Result<(), Fault>)
-    requires none { (handles.items ≡ []) × (back.items ≡ []) }
-    requires room { (vec_len workers ≤ vec_capacity handles) × (vec_len workers ≤ vec_capacity back) }
+    requires none { (handles.items ≡ []) × (back.items ≡ []) × (home.items ≡ []) }
+    requires room { (vec_len workers ≤ vec_capacity handles) × (vec_len workers ≤ vec_capacity back) × (vec_len workers ≤ vec_capacity home) }
     ensures back { places_of result.0.items ≡ places_of workers.items }
     ensures other { IfErr result.1 IsOther }
 {
@@ -180,13 +220,16 @@ fn run_reserved<
         thread::scope_env(),
         rt,
         move |scope| -> (Vec<Worker<S>>, Result<(), Fault>)
-            requires none { (handles.items ≡ []) × (back.items ≡ []) }
-            requires room { (vec_len workers ≤ vec_capacity handles) × (vec_len workers ≤ vec_capacity back) }
+            requires none { (handles.items ≡ []) × (back.items ≡ []) × (home.items ≡ []) }
+            requires room { (vec_len workers ≤ vec_capacity handles) × (vec_len workers ≤ vec_capacity back) × (vec_len workers ≤ vec_capacity home) }
             ensures back { places_of result.0.items ≡ places_of workers.items }
             ensures other { IfErr result.1 IsOther }
         {
             let (handles, rest) = start(scope, rt, alloc, table, queue, gate, workers, handles);
-            join_all(rt, handles, rest, back)
+            let mut back = back;
+            join_all(rt, handles, &mut back);
+            put_behind(rest, &mut back);
+            told(back, home)
         },
     )
 }

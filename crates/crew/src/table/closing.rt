@@ -8,6 +8,7 @@ ghost use Rattle.crew.specs.Receipts.{is_matched, missing_of};
 use crate::locked::Locked;
 use crate::{Opened, Receipt};
 use builder_core::Live;
+use log_prefixes::Known;
 
 /// A table that no thread shares any more.
 #[derive(Drop)]
@@ -78,5 +79,16 @@ pub(crate) fn compare_all<T: Opened>(locked: &mut Locked<T>, receipts: Vec<Recei
     let mut left = receipts;
     while let Some(receipt) = left.pop() {
         locked.compare(receipt.into_known());
+    }
+}
+
+/// What was known at some time is a beginning of the log.
+pub(crate) fn compare_known<T: Opened>(locked: &mut Locked<T>, known: Vec<Known<T>>)
+    ensures begin { All (λ known. IsPrefix known locked.old.state.heap.log) known.items }
+    ensures same { locked.new.state ≡ locked.old.state }
+{
+    let mut left = known;
+    while let Some(known) = left.pop() {
+        locked.compare(known);
     }
 }

@@ -11,5 +11,5 @@ loop-number-preserved c =
     let pairs : ReadyValue → List Pair = λ it. it.pairs in
     ap (λ l. map (λ it. it.items) l ++ map pairs (drop (c.loop-number.number + 1) all)) c.in_ok-push.ensures.items
     ∙ copies_more (λ it. it.items) pairs c.loop-number.pairs.items c.in_ok-copied.field-0 all c.loop-number.number c.in-Some.index.now.index c.in-Some.ensures
-    (c.in_ok-copied.ensures ∙ c.tree.ensures.pairs)
+    (c.in_ok-copied.ensures.pairs ∙ c.tree.ensures.pairs)
     ∙ c.loop-number.invariant
