@@ -1,3 +1,4 @@
 mod Crosses
+mod Gathering
 mod PassedOver
 pub mod Whole

@@ -1,5 +1,5 @@
 -- The build of a race.
-use Rattle.std.specs.Prelude.{◌≡◌, ◌⊎◌, ℕ, ◌*◌, List, [], true, vec_len, map, Option, Result, Ok, Err, IfOk}
+use Rattle.std.specs.Prelude.{◌≡◌, ◌⊎◌, ℕ, ◌*◌, List, [], true, vec_len, map, Option, Some, None, Result, Ok, Err, IfOk}
 use Rattle.keybytes.specs.Keys.{KeySpecValue}
 use Rattle.keybytes.specs.declared.fault.Fault.{Fault}
 use Rattle.keybytes.specs.declared.fault.Fault.TheVariants.{BadCount}
@@ -41,20 +41,25 @@ abbrev pub PlansBuild : ℕ → List Kind → SpoolChoice → Build → Result P
 PlansBuild workers schema choice build (Ok planned) = IsPlanOf workers schema choice build planned
 PlansBuild workers schema choice build (Err fault) = IsInLimits workers build ⊎ (fault ≡ BadCount)
 
--- a build of these indexes was decided so: the verdicts are those on the rows of some log that goes on from that one, and the lines tell of the refused
--- indexes, if there are any lines
-pub record IsOutcomeOf (opening : List LogRec) (specs : List KeySpecValue) (outcome : Outcome) : Type 0 where
-  pub log : List LogRec
+-- a build of these indexes was decided so: the verdicts are those on the rows of that log, which goes on from `opening` and ends with the switch, and the
+-- lines tell of the refused indexes, if there are any lines
+pub record IsOutcomeOf (opening : List LogRec) (specs : List KeySpecValue) (log : List LogRec) (outcome : Outcome) : Type 0 where
   pub pairs : Option (List (List Pair))
   pub report : IsReport opening specs log outcome.verdicts pairs
   pub shared : ListsShared 0 specs outcome.verdicts outcome.shared.items ⊎ (outcome.shared.items ≡ [])
 
--- a planned build was decided or given up; of one that was refused the refusal is told
-abbrev pub EndsPlanned : List LogRec → Result Planned Fault → Result Outcome Fault → Type 0
-EndsPlanned opening (Ok planned) ended = IfOk ended (IsOutcomeOf opening planned.plan.specs.items)
-EndsPlanned opening (Err fault) ended = ended ≡ Err fault
+-- the outcome is that of a switch with which that log ends, if there was one
+abbrev pub IsOutcomeIn : List LogRec → List KeySpecValue → Option (List LogRec) → Outcome → Type 0
+IsOutcomeIn opening specs None outcome = ⊥
+IsOutcomeIn opening specs (Some log) outcome = IsOutcomeOf opening specs log outcome
+
+-- a planned build was decided by a switch, or given up; of one that was refused the refusal is told
+abbrev pub EndsPlanned : List LogRec → Option (List LogRec) → Result Planned Fault → Result Outcome Fault → Type 0
+EndsPlanned opening switched (Ok planned) ended = IfOk ended (IsOutcomeIn opening planned.plan.specs.items switched)
+EndsPlanned opening switched (Err fault) ended = ended ≡ Err fault
 
 -- the build that a race asks for was decided, or given up; one that is out of its limits was refused for that
-abbrev pub EndsBuild : List LogRec → ℕ → List Kind → Build → Result Outcome Fault → Type 0
-EndsBuild opening workers schema build (Ok outcome) = IsInLimits workers build × IsOutcomeOf opening (map (key_spec_of schema) build.specs.items) outcome
-EndsBuild opening workers schema build (Err fault) = IsInLimits workers build ⊎ (fault ≡ BadCount)
+abbrev pub EndsBuild : List LogRec → Option (List LogRec) → ℕ → List Kind → Build → Result Outcome Fault → Type 0
+EndsBuild opening switched workers schema build (Ok outcome) =
+    IsInLimits workers build × IsOutcomeIn opening (map (key_spec_of schema) build.specs.items) switched outcome
+EndsBuild opening switched workers schema build (Err fault) = IsInLimits workers build ⊎ (fault ≡ BadCount)

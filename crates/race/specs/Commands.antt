@@ -60,10 +60,8 @@ TakesAll [] before old after new = (after ≡ before) × (new ≡ old)
 TakesAll (command ∷ commands) before old after new =
     (count : ℕ) × (next : SessionState) × Takes command before old count next × TakesAll commands count next after new
 
--- a session that knew that log took the commands, accepted so many, and from then on lost no receipt; in the end it has these
-pub record HasEnded (commands : List SessionCommand) (log : List LogRec) (accepted : ℕ) (receipts : List (List LogRec)) : Type 0 where
+-- a session that knew that log took the commands, accepted so many, and from then on lost no receipt: so it ended
+pub record HasEnded (commands : List SessionCommand) (log : List LogRec) (accepted : ℕ) (ended : SessionState) : Type 0 where
   pub taken : SessionState
   pub takes : TakesAll commands 0 (record { log = log; receipts = [] }) accepted taken
-  pub ended : SessionState
   pub undoes : LosesNothing taken ended
-  pub kept : receipts ≡ ended.receipts

@@ -1,4 +1,5 @@
 pub mod Builds
+pub mod OneLog
 pub mod Races
 pub mod Resting
 pub mod Rows

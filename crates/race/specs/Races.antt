@@ -10,11 +10,12 @@ use Rattle.replay.specs.declared.status.Status.TheVariants.{Done, IndexRefused, 
 use Rattle.script.specs.RaceScripts.{SpellsRaceScript}
 use Rattle.script.specs.declared.race.script.RaceScript.{RaceScript}
 use Rattle.race.specs.Builds.{EndsBuild}
-use Rattle.race.specs.Resting.{AreCheckedBehind}
+use Rattle.race.specs.OneLog.{IsToldOf}
 use Rattle.race.specs.Rows.{HasPutRows}
-use Rattle.race.specs.Sessions.{CountEach}
+use Rattle.race.specs.Sessions.{AreSessionsOf}
 use Rattle.race.specs.declared.outcome.Outcome.{Outcome}
 use Rattle.race.specs.declared.race_report.RaceReport.{RaceReport}
+use Rattle.race.specs.declared.session_script.SessionScript.{SessionScript}
 
 -- done where every index became ready, and refused where one was refused or the build was given up
 abbrev pub status_after : Result Outcome Fault → Status
@@ -27,9 +28,9 @@ pub record IsReportOf (workers : ℕ) (script : RaceScript) (report : RaceReport
   -- the log that the table had when sessions and build began
   pub opening : List LogRec
   pub rows : HasPutRows script.rows.items [] opening
-  pub build : EndsBuild opening workers script.table.kinds.items script.build report.build
-  pub sessions : CountEach script.steps.items report.sessions.items
-  pub checks : AreCheckedBehind opening report.checks.items
+  pub scripts : List SessionScript
+  pub split : AreSessionsOf script.steps.items scripts
+  pub told : IsToldOf opening (λ switched. EndsBuild opening switched workers script.table.kinds.items script.build report.build) scripts report
   pub pages : report.pages ≡ 0
 
 -- the race was run and ended with that status, or something failed

@@ -11,9 +11,8 @@ pub record AreChecked (ready : ℕ) (lines : List CheckLine) : Type 0 where
   pub many : length lines ≡ min ready 8
   pub same : All (λ line. ¬ (line ≡ Differs)) lines
 
--- so it is of as many indexes as some log that goes on from that one made ready
-pub record AreCheckedBehind (opening : List LogRec) (lines : List CheckLine) : Type 0 where
-  pub log : List LogRec
+-- so it is of as many indexes as that log made ready, which goes on from `opening`
+pub record AreCheckedIn (opening log : List LogRec) (lines : List CheckLine) : Type 0 where
   pub ready : ℕ
   pub made : HasMadeReady opening log ready
   pub checked : AreChecked ready lines

@@ -1,7 +1,10 @@
--- What each session of a race does, and how much it counted.
+-- What each session of a race does, and what it leaves.
 use Rattle.std.specs.Prelude.{◌≡◌, ◌==◌, ◌+◌, ℕ, zero, suc, List, [], ◌∷◌, ◌++◌, length, map, filter}
+use mathlib.Core.List.{IsPrefix}
+use Rattle.heap_log.specs.declared.record.LogRec.{LogRec}
 use Rattle.script.specs.declared.race.session_command.SessionCommand.{SessionCommand}
 use Rattle.script.specs.declared.race.session_step.SessionStep.{SessionStep}
+use Rattle.race.specs.Commands.{HasEnded, SessionState}
 use Rattle.race.specs.declared.session_line.SessionLine.{SessionLine}
 use Rattle.race.specs.declared.session_script.SessionScript.{SessionScript}
 
@@ -31,18 +34,16 @@ shares (suc n) steps = shares n steps ++ share (suc n) (commands_of (suc n) step
 abbrev pub AreSessionsOf : List SessionStep → List SessionScript → Type 0
 AreSessionsOf steps sessions = map share_of sessions ≡ shares 8 steps
 
--- a session's number, and how many commands it has
-pub record Count : Type 0 where
-  pub session : ℕ
-  pub commands : ℕ
+-- what a session leaves: what is told of it, what it knew of the log in the end, and its receipts, each as the beginning of the log that it stands for
+pub record EndedValue : Type 0 where
+  pub line : SessionLine
+  pub left : SessionState
 
-abbrev pub script_count : SessionScript → Count
-script_count script = record { session = script.session; commands = length script.commands.items }
-
--- those that were accepted and those that were refused
-abbrev pub line_count : SessionLine → Count
-line_count line = record { session = line.session; commands = line.accepted + line.refused }
-
--- there is a line for each session that does something, which counts each of its commands once
-abbrev pub CountEach : List SessionStep → List SessionLine → Type 0
-CountEach steps lines = (sessions : List SessionScript) × AreSessionsOf steps sessions × (map line_count lines ≡ map script_count sessions)
+-- the session ran its commands, and knew at first a log that goes on from `opening`; it tells how many of them were accepted, and that the others were
+-- refused
+pub record HasRun (opening : List LogRec) (script : SessionScript) (ended : EndedValue) : Type 0 where
+  pub session : ended.line.session ≡ script.session
+  pub each : ended.line.accepted + ended.line.refused ≡ length script.commands.items
+  pub first : List LogRec
+  pub goes_on : IsPrefix opening first
+  pub went : HasEnded script.commands.items first ended.line.accepted ended.left

@@ -1,7 +1,7 @@
 //! The build of a race.
 ghost use Rattle.std.specs.Prelude.{◌≡◌, IfOk};
 ghost use Rattle.crew.specs.Reports.{IsReport, lists_in};
-ghost use Rattle.race.specs.Builds.{EndsPlanned, IsLeased, IsOutcomeOf};
+ghost use Rattle.race.specs.Builds.{EndsPlanned, IsLeased, IsOutcomeIn};
 
 use crate::Watch;
 use crate::built::Built;
@@ -27,7 +27,7 @@ pub fn run_build<T: Opened + Send + Sync, R: Threads + Wait + Sync, V: Watch + S
 ) -> Built<T>
     requires { IfOk planned IsLeased }
     ensures pages { result.pages ≡ 0 }
-    ensures build { EndsPlanned T.opening planned result.build }
+    ensures build { EndsPlanned T.opening result.receipt planned result.build }
 {
     match planned {
         Ok(planned) => run_planned(rt, alloc, table, ends, planned, watch),
@@ -49,7 +49,7 @@ fn run_planned<T: Opened + Send + Sync, R: Threads + Wait + Sync, V: Watch + Sen
 ) -> Built<T>
     requires { IsLeased planned }
     ensures pages { result.pages ≡ 0 }
-    ensures build { IfOk result.build (IsOutcomeOf T.opening planned.plan.specs.items) }
+    ensures build { IfOk result.build (IsOutcomeIn T.opening planned.plan.specs.items result.receipt) }
 {
     let Planned {
         plan,
@@ -74,7 +74,7 @@ fn run_planned<T: Opened + Send + Sync, R: Threads + Wait + Sync, V: Watch + Sen
 fn decided<T: Opened>(alloc: Global, plan: &Plan, report: Report<T>, pages: usize) -> Built<T>
     requires { IsReport T.opening plan.now.specs.items report.receipt report.verdicts (lists_in report.pairs) }
     ensures pages { result.pages ≡ pages }
-    ensures build { IfOk result.build (IsOutcomeOf T.opening plan.now.specs.items) }
+    ensures build { IfOk result.build (IsOutcomeIn T.opening plan.now.specs.items result.receipt) }
 {
     let Report {
         receipt,

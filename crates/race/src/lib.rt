@@ -7,8 +7,8 @@
 mod builder;
 mod built;
 mod check_line;
-mod each_counted;
 mod ended;
+mod ends_script;
 mod gathered;
 mod outcome;
 mod planned;

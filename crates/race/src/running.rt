@@ -1,14 +1,12 @@
 //! The course of a race.
-ghost use Rattle.std.specs.Prelude.{◌≡◌, ◌≤◌, [], map, IfOk, vec_len, vec_capacity};
+ghost use Rattle.std.specs.Prelude.{◌≡◌, ◌≤◌, ◌<◌, [], IfOk, vec_len, vec_capacity};
 ghost use Rattle.race.specs.Builds.{EndsPlanned, IsLeased};
+ghost use Rattle.race.specs.OneLog.{IsToldOf};
 ghost use Rattle.race.specs.Races.{IsReportOf};
-ghost use Rattle.race.specs.Resting.{AreCheckedBehind};
-ghost use Rattle.race.specs.Sessions.{line_count, script_count};
 
 use crate::Watch;
-use crate::built::Built;
-use crate::each_counted::EachCounted;
 use crate::ended::Ended;
+use crate::ends_script::EndsScript;
 use crate::gathered::Gathered;
 use crate::planned::{Planned, plan_build};
 use crate::race_report::RaceReport;
@@ -86,9 +84,7 @@ fn run_named<T: Opened + Send + Sync, R: Threads + Wait + Sync, V: Watch + Send 
     requires opening { parts.parts.heap.log ≡ T.opening }
     requires leased { IfOk planned IsLeased }
     ensures pages { IfOk result (λ report. report.pages ≡ 0) }
-    ensures build { IfOk result (λ report. EndsPlanned T.opening planned report.build) }
-    ensures lines { IfOk result (λ report. map line_count report.sessions.items ≡ map script_count sessions.items) }
-    ensures checks { IfOk result (λ report. AreCheckedBehind T.opening report.checks.items) }
+    ensures told { IfOk result (λ report. IsToldOf T.opening (λ switched. EndsPlanned T.opening switched planned report.build) sessions.items report) }
 {
     let gathered = Gathered::<T>::new(alloc, sessions.len(), records.saturating_add(1))?;
     let handles = Vec::with_capacity(alloc, sessions.len())?;
@@ -106,7 +102,7 @@ fn run_reserved<T: Opened + Send + Sync, R: Threads + Wait + Sync, V: Watch + Se
     planned: Result<Planned, Fault>,
     watch: V,
     sessions: Vec<SessionScript>,
-    handles: Vec<PromisedHandle<Ended<T>, EachCounted>>,
+    handles: Vec<PromisedHandle<Ended<T>, EndsScript>>,
     ended: Vec<Ended<T>>,
     gathered: Gathered<T>,
 ) -> RaceReport
@@ -115,31 +111,24 @@ fn run_reserved<T: Opened + Send + Sync, R: Threads + Wait + Sync, V: Watch + Se
     requires sides { parts.parts.sides ≡ T.sides }
     requires opening { parts.parts.heap.log ≡ T.opening }
     requires leased { IfOk planned IsLeased }
-    requires none { (handles.items ≡ []) × (ended.items ≡ []) × (gathered.lines.items ≡ []) }
-    requires room { (vec_len sessions ≤ vec_capacity handles) × (vec_len sessions ≤ vec_capacity ended) × (vec_len sessions ≤ vec_capacity gathered.lines) }
+    requires none { (handles.items ≡ []) × (ended.items ≡ []) }
+    requires none_gathered { (gathered.lines.items ≡ []) × (gathered.known.items ≡ []) × (gathered.receipts.items ≡ []) }
+    requires room { (vec_len sessions ≤ vec_capacity handles) × (vec_len sessions ≤ vec_capacity ended) }
+    requires room_to_gather { (vec_len sessions ≤ vec_capacity gathered.lines) × (vec_len sessions ≤ vec_capacity gathered.known) × (0 < vec_capacity gathered.receipts) }
     ensures pages { result.pages ≡ 0 }
-    ensures build { EndsPlanned T.opening planned result.build }
-    ensures lines { map line_count result.sessions.items ≡ map script_count sessions.items }
-    ensures checks { AreCheckedBehind T.opening result.checks.items }
+    ensures told { IsToldOf T.opening (λ switched. EndsPlanned T.opening switched planned result.build) sessions.items result }
 {
     let (table, ends) = parts.open::<T>();
-    let (built, mut gathered) = run_beside(
+    let (build, pages, gathered) = run_beside(
         rt, alloc, &table, ends, planned, watch, sessions, handles, ended, gathered,
     );
-    let Built {
-        build,
-        receipt,
-        pages,
-    } = built;
-    if let Some(receipt) = receipt {
-        gathered.keep(receipt);
-    }
     let Gathered {
         lines,
+        known,
         receipts,
         mut checks,
     } = gathered;
-    let Closed { mut live, missing } = table.close(receipts);
+    let Closed { mut live, missing } = table.close_with(receipts, known);
     check_all(&mut live, &mut checks);
     RaceReport {
         build,

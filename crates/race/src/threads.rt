@@ -1,14 +1,18 @@
 //! Sessions in threads of their own, and a build beside them.
-ghost use Rattle.std.specs.Prelude.{◌≡◌, ◌≤◌, ◌+◌, ◌++◌, [], map, IfOk, vec_len, vec_capacity};
+ghost use Rattle.std.specs.Prelude.{◌≡◌, ◌≤◌, ◌<◌, ◌+◌, ◌++◌, List, [], map, IfOk, vec_len, vec_capacity};
+ghost use Rattle.std.specs.List.{AllZip};
 ghost use Rattle.race.specs.Builds.{EndsPlanned, IsLeased};
-ghost use Rattle.race.specs.Sessions.{line_count, script_count};
+ghost use Rattle.race.specs.OneLog.{AreGathered, AreLeft};
+ghost use Rattle.race.specs.Sessions.{HasRun};
+ghost use Rattle.race.specs.declared.session_script.SessionScript.{SessionScript};
 
 use crate::Watch;
 use crate::builder::run_build;
 use crate::built::Built;
-use crate::each_counted::EachCounted;
 use crate::ended::Ended;
+use crate::ends_script::EndsScript;
 use crate::gathered::Gathered;
+use crate::outcome::Outcome;
 use crate::planned::Planned;
 use crate::session::{SessionEnd, run_session};
 use crate::session_line::SessionLine;
@@ -29,7 +33,7 @@ fn run_one<T: Opened, R: Wait>(
     table: &Table<T>,
     script: SessionScript,
 ) -> Ended<T>
-    ensures { line_count result.line ≡ script_count script }
+    ensures { HasRun T.opening script result }
 {
     let SessionScript {
         session: number,
@@ -39,6 +43,7 @@ fn run_one<T: Opened, R: Wait>(
         accepted,
         refused,
         receipts,
+        known,
     } = run_session(rt, alloc, table.session(rt), commands);
     Ended {
         line: SessionLine {
@@ -47,6 +52,7 @@ fn run_one<T: Opened, R: Wait>(
             refused,
         },
         receipts,
+        known,
     }
 }
 
@@ -59,7 +65,8 @@ fn run_here<T: Opened, R: Wait>(
     ended: &mut Vec<Ended<T>>,
 )
     requires { vec_len ended.old + vec_len scripts ≤ vec_capacity ended.old }
-    ensures lines { map (λ it. line_count it.line) ended.new.items ≡ map (λ it. line_count it.line) ended.old.items ++ map script_count scripts.items }
+    ensures ran { (before : List SessionScript) → AllZip (HasRun T.opening) before ended.old.items
+        → AllZip (HasRun T.opening) (before ++ scripts.items) ended.new.items }
     ensures many { vec_len ended.new ≡ vec_len ended.old + vec_len scripts }
 {
     for script in scripts {
@@ -74,18 +81,18 @@ fn start<'s, 'e, T: Opened + Send + Sync + 'e, R: Threads + Wait + Sync>(
     alloc: Global,
     table: &'e Table<T>,
     mut scripts: Vec<SessionScript>,
-    mut handles: Vec<PromisedHandle<Ended<T>, EachCounted>>,
+    mut handles: Vec<PromisedHandle<Ended<T>, EndsScript>>,
     mut ended: Vec<Ended<T>>,
-) -> (Vec<PromisedHandle<Ended<T>, EachCounted>>, Vec<Ended<T>>)
+) -> (Vec<PromisedHandle<Ended<T>, EndsScript>>, Vec<Ended<T>>)
     requires none { (handles.items ≡ []) × (ended.items ≡ []) }
     requires room { (vec_len scripts ≤ vec_capacity handles) × (vec_len scripts ≤ vec_capacity ended) }
-    ensures all { map (λ handle. script_count handle.promise.script.value) result.0.items ++ map (λ it. line_count it.line) result.1.items
-        ≡ map script_count scripts.items }
+    ensures all { (rest : List SessionScript) × (map (λ handle. handle.promise.script.value) result.0.items ++ rest ≡ scripts.items)
+        × AllZip (HasRun T.opening) rest result.1.items }
     ensures many { vec_len result.0 + vec_len result.1 ≡ vec_len scripts }
 {
     while !scripts.is_empty() {
         let script = scripts.remove(0);
-        let promise = EachCounted {
+        let promise = EndsScript {
             script: Snapshot::of(&script),
         };
         match scope.spawn_with(promise, move || run_one(rt, alloc, table, script)) {
@@ -100,17 +107,18 @@ fn start<'s, 'e, T: Opened + Send + Sync + 'e, R: Threads + Wait + Sync>(
     (handles, ended)
 }
 
-/// Waits for each thread, and puts together what all sessions leave.
+/// Waits for each thread, and puts together what all sessions leave, behind the receipts that are there.
 fn gather<T: Opened, R: Threads>(
     rt: &R,
-    handles: Vec<PromisedHandle<Ended<T>, EachCounted>>,
+    handles: Vec<PromisedHandle<Ended<T>, EndsScript>>,
     ended: Vec<Ended<T>>,
     gathered: &mut Gathered<T>,
 )
-    requires none { gathered.old.lines.items ≡ [] }
-    requires room { vec_len handles + vec_len ended ≤ vec_capacity gathered.old.lines }
-    ensures { map line_count gathered.new.lines.items
-        ≡ map (λ handle. script_count handle.promise.script.value) handles.items ++ map (λ it. line_count it.line) ended.items }
+    requires none { (gathered.old.lines.items ≡ []) × (gathered.old.known.items ≡ []) }
+    requires room { (vec_len handles + vec_len ended ≤ vec_capacity gathered.old.lines) × (vec_len handles + vec_len ended ≤ vec_capacity gathered.old.known) }
+    ensures { (rest : List SessionScript) → AllZip (HasRun T.opening) rest ended.items
+        → AreGathered T.opening gathered.old.receipts.items (map (λ handle. handle.promise.script.value) handles.items ++ rest)
+        gathered.new.lines.items gathered.new.known.items gathered.new.receipts.items }
 {
     for handle in handles {
         gathered.put(handle.join(rt));
@@ -134,34 +142,41 @@ pub fn run_beside<
     planned: Result<Planned, Fault>,
     watch: V,
     scripts: Vec<SessionScript>,
-    handles: Vec<PromisedHandle<Ended<T>, EachCounted>>,
+    handles: Vec<PromisedHandle<Ended<T>, EndsScript>>,
     ended: Vec<Ended<T>>,
     gathered: Gathered<T>,
-) -> (Built<T>, Gathered<T>)
+) -> (Result<Outcome, Fault>, usize, Gathered<T>)
     requires leased { IfOk planned IsLeased }
-    requires none { (handles.items ≡ []) × (ended.items ≡ []) × (gathered.lines.items ≡ []) }
-    requires room { (vec_len scripts ≤ vec_capacity handles) × (vec_len scripts ≤ vec_capacity ended) × (vec_len scripts ≤ vec_capacity gathered.lines) }
-    ensures pages { result.0.pages ≡ 0 }
-    ensures build { EndsPlanned T.opening planned result.0.build }
-    ensures lines { map line_count result.1.lines.items ≡ map script_count scripts.items }
+    requires none { (handles.items ≡ []) × (ended.items ≡ []) }
+    requires none_gathered { (gathered.lines.items ≡ []) × (gathered.known.items ≡ []) × (gathered.receipts.items ≡ []) }
+    requires room { (vec_len scripts ≤ vec_capacity handles) × (vec_len scripts ≤ vec_capacity ended) }
+    requires room_to_gather { (vec_len scripts ≤ vec_capacity gathered.lines) × (vec_len scripts ≤ vec_capacity gathered.known) × (0 < vec_capacity gathered.receipts) }
+    ensures pages { result.1 ≡ 0 }
+    ensures left { AreLeft T.opening planned scripts.items result.0 result.2.lines.items result.2.known.items result.2.receipts.items }
 {
     thread::scope(
         thread::scope_env(),
         rt,
-        move |scope| -> (Built<T>, Gathered<T>)
+        move |scope| -> (Result<Outcome, Fault>, usize, Gathered<T>)
             requires leased { IfOk planned IsLeased }
-            requires none { (handles.items ≡ []) × (ended.items ≡ []) × (gathered.lines.items ≡ []) }
-            requires room { (vec_len scripts ≤ vec_capacity handles) × (vec_len scripts ≤ vec_capacity ended)
-                × (vec_len scripts ≤ vec_capacity gathered.lines) }
-            ensures pages { result.0.pages ≡ 0 }
-            ensures build { EndsPlanned T.opening planned result.0.build }
-            ensures lines { map line_count result.1.lines.items ≡ map script_count scripts.items }
+            requires none { (handles.items ≡ []) × (ended.items ≡ []) }
+            requires none_gathered { (gathered.lines.items ≡ []) × (gathered.known.items ≡ []) × (gathered.receipts.items ≡ []) }
+            requires room { (vec_len scripts ≤ vec_capacity handles) × (vec_len scripts ≤ vec_capacity ended) }
+            requires room_to_gather { (vec_len scripts ≤ vec_capacity gathered.lines) × (vec_len scripts ≤ vec_capacity gathered.known)
+                × (0 < vec_capacity gathered.receipts) }
+            ensures pages { result.1 ≡ 0 }
+            ensures left { AreLeft T.opening planned scripts.items result.0 result.2.lines.items result.2.known.items result.2.receipts.items }
         {
             let (handles, ended) = start(scope, rt, alloc, table, scripts, handles, ended);
-            let built = run_build(rt, alloc, table, ends, planned, watch);
+            let Built {
+                build,
+                receipt,
+                pages,
+            } = run_build(rt, alloc, table, ends, planned, watch);
             let mut gathered = gathered;
+            gathered.keep_first(receipt);
             gather(rt, handles, ended, &mut gathered);
-            (built, gathered)
+            (build, pages, gathered)
         },
     )
 }

@@ -17,7 +17,7 @@ pub fn run_session<T: Opened, R: Wait>(
     commands: Vec<SessionCommand>,
 ) -> SessionEnd<T>
     ensures each { result.accepted + result.refused ≡ length commands.items }
-    ensures ended { HasEnded commands.items session.entry result.accepted result.receipts.items }
+    ensures ended { HasEnded commands.items session.entry result.accepted (record { log = result.known; receipts = result.receipts.items }) }
 {
     let total = commands.len();
     let mut running = Running::new(alloc);
@@ -27,6 +27,7 @@ pub fn run_session<T: Opened, R: Wait>(
         accepted,
         refused: total - accepted,
         receipts: running.receipts,
+        known: session.into_known(),
     }
 }
 

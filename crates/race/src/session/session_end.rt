@@ -1,4 +1,4 @@
-use crew::{Opened, Receipt};
+use crew::{Known, Opened, Receipt};
 
 /// How a session of a race has ended.
 #[derive(Drop)]
@@ -8,4 +8,6 @@ pub struct SessionEnd<T: Opened> {
     pub refused: usize,
     /// For each record that it wrote to the log.
     pub receipts: Vec<Receipt<T>>,
+    /// What it knows of the log.
+    pub known: Known<T>,
 }

@@ -17,4 +17,4 @@ returns g c =
     let rows = subst (HasPutRows script.rows.items []) (sym opening) put in
     let ran = c.run_named.ensures in
     whole_report c.args.workers script c.in_ok-parts.parts.parts.heap.log c.plan_build-planned.result c.in_ok-sessions.sessions.items c.run_named.result
-    c.in_ok-heap.ensures.accepted rows plan c.in_ok-sessions.ensures ran.pages ran.build ran.lines ran.checks
+    c.in_ok-heap.ensures.accepted rows plan c.in_ok-sessions.ensures ran.pages ran.told

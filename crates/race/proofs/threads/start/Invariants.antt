@@ -1,10 +1,9 @@
 use Rattle.std.proofs.Common.{◌≡◌, ◌++◌, ◌+◌, ◌≤◌, [], map, vec_len, vec_capacity}
-use Rattle.race.specs.Sessions.{script_count}
 use Rattle.race.proofs.threads.start.Given as goal
 
 abbrev pub invariant-loop-alloc : goal.invariant-loop-alloc
 invariant-loop-alloc g l = record {
-  all : map (λ handle. script_count handle.promise.script.value) l.handles.items ++ map script_count l.scripts.items ≡ map script_count l.fn.scripts.items;
+  all : map (λ handle. handle.promise.script.value) l.handles.items ++ l.scripts.items ≡ l.fn.scripts.items;
   many : vec_len l.handles + vec_len l.scripts ≡ vec_len l.fn.scripts;
   none : l.ended.items ≡ [];
   room : vec_len l.handles + vec_len l.scripts ≤ vec_capacity l.handles;
