@@ -75,10 +75,6 @@ OnTxn (Some txn) GoesOn old given new = GoesOn txn old given new
 abbrev pub Happens : Event → CoreState → Answer → CoreState → Type 0
 Happens asked old given new = (told : Reply) × Step old asked told new × (given ≡ answer_to told)
 
--- a transaction begins, or memory is wanting for its label
-abbrev pub BeginsTxn : CoreState → Answer → CoreState → Type 0
-BeginsTxn old given new = Happens event.Begin old given new ⊎ Refuses Memory old given new
-
 -- a transaction writes the row at the RID and commits
 abbrev pub PutsRow : List Cell → ℕ → CoreState → Rid → CoreState → Type 0
 PutsRow cells txn old rid new =
@@ -100,6 +96,13 @@ TakesBack zero old txn new =
 TakesBack (suc more) old txn new =
     (number : ℕ) × (left : ℕ) × (mid : CoreState)
     × Step old (event.Undo txn) (reply.Undone number left) mid × TakesBack more mid txn new
+
+-- a transaction begins; or it has begun, there is no memory for its label, and it is taken back
+abbrev pub BeginsTxn : CoreState → Answer → CoreState → Type 0
+BeginsTxn old given new =
+    Happens event.Begin old given new
+    ⊎ ((txn : ℕ) × (begun : CoreState) × (more : ℕ)
+    × (given ≡ answer.Refused Memory) × Step old event.Begin (reply.Begun txn) begun × TakesBack more begun txn new)
 
 -- a transaction of its own begins and puts the row in, or takes back what it wrote; or none begins
 abbrev pub AddsRow : List Cell → CoreState → Answer → CoreState → Type 0
@@ -130,7 +133,7 @@ StartsBuild start old given new =
     ⊎ ((fault : Fault) × (fault ≢ Memory → specs_refusal old.live.heap.schema start.specs.items ≡ Some fault) × Refuses fault old given new)
 
 -- a switch decides: the build has ended, and no page of its spools is missing; of indexes that it refused lines tell, unless there was no memory for
--- them; or there is no memory to go on with it, or it is refused
+-- them; or it is refused
 abbrev pub Decides : CoreState → Answer → CoreState → Type 0
 Decides old given new =
     ((number : ℕ) × (verdicts : List Outcome)
@@ -138,7 +141,6 @@ Decides old given new =
     ⊎ ((number : ℕ) × (verdicts : List Outcome) × (lines : Vec SharedLine Global)
     × (given ≡ answer.SomeRefused number verdicts lines 0) × (OnBuild old.live.build (λ b. ListsShared 0 b.specs verdicts lines.items) ⊎ (lines.items ≡ []))
     × EndsBuild event.Switch (reply.Switched number verdicts) old new)
-    ⊎ Refuses Memory old given new
     ⊎ ((fault : Fault) × (given ≡ answer.Refused fault) × Step old event.Switch (reply.Refused fault) new)
 
 -- the build is given up, and no page of its spools is missing; or that is refused
