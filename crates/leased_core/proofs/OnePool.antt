@@ -1,21 +1,22 @@
 -- The accounts of one pool behind new spools, and behind spools that are given up.
-use Rattle.std.proofs.Common.{◌≡◌, ℕ, zero, suc, ◌+◌, ◌-◌, ◌*◌, ◌≤◌, Bool, true, List, [], ◌∷◌, ◌++◌, map, replicate, Option, Some, refl, sym, ap, subst, ◌∙◌, arith}
+use Rattle.std.proofs.Common.{◌≡◌, ℕ, zero, suc, ◌+◌, ◌-◌, ◌*◌, ◌≤◌, Bool, true, List, [], ◌∷◌, ◌++◌, map, replicate, Option, Some, None, refl, sym, ap, subst, ◌∙◌, arith}
 use Rattle.std.proofs.lemmas.List.{length-replicate}
 use Rattle.std.proofs.lemmas.List.Elements.{All-nil, All-cons, All-head, All-tail}
 use Rattle.std.proofs.lemmas.List.Folds.{sum_by-replicate}
 use Rattle.std.proofs.lemmas.List.Sums.{sum_by-cons}
-use Rattle.std.specs.Prelude.{sum}
+use Rattle.std.specs.Prelude.{MatchOption, sum}
 use Rattle.std.specs.List.{All, sum_by}
 use Rattle.spool_ledger.specs.Accounts.{AccountValue, IsWhole, Stake, new_account, stake_of}
-use Rattle.spool_ledger.specs.Pools.{PoolValue, after_reclaim, free_of, new_pool, quota_of, with_out}
+use Rattle.spool_ledger.specs.Pools.{PoolValue, after_reclaim, free_of, new_pool, quota_of, with_back, with_out}
 use Rattle.run_spool.specs.PagedSpools.{PagedSpoolValue, new_spool, runs_of}
 use Rattle.run_spool.specs.Runs.{pairs_of}
 use Rattle.run_spool.specs.Spools.{holds_nothing, stakes_in}
 use Rattle.prefix_spool.specs.Kinds.{inside}
 use Rattle.prefix_spool.specs.declared.either.SpoolOfKind.{SpoolOfKind}
-use Rattle.build_events.specs.CoreState.{SpoolsState}
+use Rattle.build_events.specs.CoreState.{CoreState, SpoolsState}
 use Rattle.building.specs.Holding.{spools_in}
-use Rattle.leased_core.specs.Leasing.{AreOf, LeasesValue, new_spools, pages_of, spools_of_kinds, stake_in}
+use Rattle.leased_core.specs.Leasing.{AreOf, HasPagesOf, IsBackOf, IsHandedBack, LeasesFollow, LeasesValue, new_spools, pages_in, pages_of, spools_of_kinds, stake_in}
+use Rattle.leased_core.specs.declared.handed_back.HandedBack.{HandedBack}
 
 -- that number, so many times, comes to the product
 pub sum_of_equals : (count quota : ℕ) → sum (replicate count quota) ≡ count * quota
@@ -104,6 +105,15 @@ own_accounts number (account ∷ accounts) own =
     (All-head (λ (stake : Stake). stake.pool ≡ number) (stake_of account) (map stake_of accounts) own)
     (own_accounts number accounts (All-tail (λ (stake : Stake). stake.pool ≡ number) (stake_of account) (map stake_of accounts) own))
 
+-- a pool all of whose pages are split off has none left
+pub none_left : (count quota : ℕ) (pool after view : PoolValue) (quotas : List ℕ) → pool ≡ new_pool 0 (count * quota)
+    → after ≡ with_out pool (sum quotas) → view ≡ after → quotas ≡ replicate count quota → view.free ≡ 0
+none_left count quota pool after view quotas made split is equal =
+    let whole : view ≡ with_out (new_pool 0 (count * quota)) (sum quotas) = is ∙ split ∙ ap (λ (pool : PoolValue). with_out pool (sum quotas)) made in
+    let left : view.free ≡ count * quota - sum quotas = ap (λ (pool : PoolValue). pool.free) whole in
+    let together : sum quotas ≡ count * quota = ap sum equal ∙ sum_of_equals count quota in
+    omega (arith, left, together)
+
 account_pages : (accounts : List AccountValue) → sum_by pages_of (map stake_of accounts) ≡ sum_by quota_of accounts
 account_pages [] = refl
 account_pages (account ∷ accounts) =
@@ -139,10 +149,28 @@ free_of_whole (account ∷ accounts) whole =
     ∙ ap (λ rest. account.quota + rest) (free_of_whole accounts (All-tail IsWhole account accounts whole))
     ∙ sym (sum_by-cons quota_of account accounts)
 
--- a pool that reclaims all that it has split off has no page out
-pub none_out : (pool new : PoolValue) (accounts : List AccountValue) → sum_by quota_of accounts ≡ pool.out → All IsWhole accounts
-    → new ≡ after_reclaim pool accounts → new.out ≡ 0
-none_out pool new accounts out whole reclaimed =
-    let left : new.out ≡ pool.out - sum_by free_of accounts = ap (λ (pool : PoolValue). pool.out) reclaimed in
-    let free : sum_by free_of accounts ≡ pool.out = free_of_whole accounts whole ∙ out in
-    omega (arith, left, free)
+-- a pool that reclaims all that it has split off has these pages back
+pub all_back : (pool new : PoolValue) (accounts : List AccountValue) → sum_by quota_of accounts ≡ pool.out → All IsWhole accounts
+    → new ≡ after_reclaim pool accounts → new ≡ with_back pool pool.out
+all_back pool new accounts out whole reclaimed = reclaimed ∙ ap (with_back pool) (free_of_whole accounts whole ∙ out)
+
+-- behind a pool whose pages were all out, those are all that it has
+has_pages_of : (leases : LeasesValue) (stakes : List (Option Stake)) → AreOf leases stakes → leases.pool.free ≡ 0
+    → HasPagesOf stakes (with_back leases.pool leases.pool.out)
+has_pages_of leases stakes of none =
+    let out : pages_in stakes ≡ leases.pool.out = of.out in
+    let free : leases.pool.free + leases.pool.out ≡ pages_in stakes = omega (arith, out, none) in
+    let left : leases.pool.out - leases.pool.out ≡ 0 = omega arith in
+    (free, left)
+
+-- so what comes back of a build is what its spools had leased
+pub handed_back : (leases : Option LeasesValue) (s : CoreState) (back : HandedBack) → LeasesFollow leases s → IsBackOf leases back → IsHandedBack s back
+handed_back None s back rest is = record {
+  pool = subst (λ (pool : Option PoolValue). MatchOption pool (s.live.build ≡ None) (HasPagesOf s.spools.stakes)) (sym is.pool) rest.build;
+  missing = is.missing;
+}
+handed_back (Some leases) s back leasing is = record {
+  pool = subst (λ (pool : Option PoolValue). MatchOption pool (s.live.build ≡ None) (HasPagesOf s.spools.stakes)) (sym is.pool)
+      (has_pages_of leases s.spools.stakes leasing.stakes leasing.all_out);
+  missing = is.missing;
+}

@@ -1,8 +1,9 @@
 -- The pages that the spools of a build lease, and how a table stands before a build and behind it.
-use Rattle.std.specs.Prelude.{◌≡◌, ◌⊎◌, ℕ, ◌*◌, ◌≤◌, true, is_some, List, [], length, replicate, Option, Some, None}
+use Rattle.std.specs.Prelude.{◌≡◌, ◌⊎◌, ℕ, ◌*◌, ◌≤◌, true, is_some, List, [], length, replicate, Option, Some, None, MatchOption}
 use Rattle.std.specs.List.{All, sum_by}
+use Rattle.std.specs.Option.{option_map}
 use Rattle.spool_ledger.specs.Accounts.{Stake, stake_of}
-use Rattle.spool_ledger.specs.Pools.{PoolValue}
+use Rattle.spool_ledger.specs.Pools.{PoolValue, with_back}
 use Rattle.run_spool.specs.PagedSpools.{runs_of}
 use Rattle.run_spool.specs.Runs.{pairs_of}
 use Rattle.run_spool.specs.Spools.{stakes_in}
@@ -19,6 +20,7 @@ use Rattle.build_events.specs.declared.event.Event.TheVariants.{Begin, Insert, U
 use Rattle.build_events.specs.declared.plan.Plan.{Plan}
 use Rattle.build_events.specs.declared.reply.Reply.{Reply}
 use Rattle.build_events.specs.declared.reply.Reply.TheVariants.{Refused}
+use Rattle.leased_core.specs.declared.handed_back.HandedBack.{HandedBack}
 
 -- the pool of a build's pages, and for how many of its accounts there is room
 pub record LeasesValue : Type 0 where
@@ -49,10 +51,14 @@ new_spools count quota = record { stakes = replicate count (Some (record { pool 
 abbrev pub pages_of : Stake → ℕ
 pages_of stake = stake.quota
 
+-- how many pages these accounts have together
+abbrev pub pages_in : List (Option Stake) → ℕ
+pages_in stakes = sum_by pages_of (stakes_in stakes)
+
 -- the accounts behind spools are of that pool, have together the pages that it has split off, and find room beside it
 pub record AreOf (leases : LeasesValue) (stakes : List (Option Stake)) : Type 0 where
   pub own : All (λ stake. stake.pool ≡ leases.pool.number) (stakes_in stakes)
-  pub out : sum_by pages_of (stakes_in stakes) ≡ leases.pool.out
+  pub out : pages_in stakes ≡ leases.pool.out
   pub room : length stakes ≤ leases.room
 
 -- no build runs beside the table, and there are no spools
@@ -61,10 +67,11 @@ pub record IsAtRest (s : CoreState) : Type 0 where
   pub work : s.work ≡ idle
   pub spools : s.spools ≡ no_spools
 
--- a build runs, and the accounts behind its spools are of that pool
+-- a build runs, the accounts behind its spools are of that pool, and it has no other pages
 pub record IsLeasing (leases : LeasesValue) (s : CoreState) : Type 0 where
   pub build : is_some s.live.build ≡ true
   pub stakes : AreOf leases s.spools.stakes
+  pub all_out : leases.pool.free ≡ 0
 
 -- pages are leased exactly while a build runs
 abbrev pub LeasesFollow : Option LeasesValue → CoreState → Type 0
@@ -75,6 +82,20 @@ LeasesFollow (Some leases) s = IsLeasing leases s
 abbrev pub AreLeased : Option LeasesValue → List (Option Stake) → Type 0
 AreLeased None stakes = Unit {0}
 AreLeased (Some leases) stakes = AreOf leases stakes
+
+-- a pool comes back, if there was one, with the pages that were out; and none is missing
+pub record IsBackOf (leases : Option LeasesValue) (back : HandedBack) : Type 0 where
+  pub pool : back.pool ≡ option_map (λ leases. with_back leases.pool leases.pool.out) leases
+  pub missing : back.missing ≡ 0
+
+-- the pool has as many pages as these accounts had together, and none is out
+abbrev pub HasPagesOf : List (Option Stake) → PoolValue → Type 0
+HasPagesOf stakes pool = (pool.free ≡ pages_in stakes) × (pool.out ≡ 0)
+
+-- the pages that the spools of the build had leased are back in its pool, and none is missing; where no build ran there is no pool
+pub record IsHandedBack (s : CoreState) (back : HandedBack) : Type 0 where
+  pub pool : MatchOption back.pool (s.live.build ≡ None) (HasPagesOf s.spools.stakes)
+  pub missing : back.missing ≡ 0
 
 -- the table with new spools beside it, one for each worker and index of the plan, each with a quota of that many pages
 abbrev pub with_new_spools : ℕ → Plan → CoreState → CoreState

@@ -1,5 +1,6 @@
 ghost use Rattle.std.specs.Prelude.{◌≡◌, ◌≤◌, ◌<◌, ◌^◌, All, map, replicate, IfOk, IfErr};
 ghost use Rattle.run_spool.specs.Choices.{kinds_from};
+ghost use Rattle.spool_ledger.specs.Pools.{with_back};
 ghost use Rattle.prefix_spool.specs.Kinds.{kind_of};
 ghost use Rattle.leased_core.specs.Leasing.{AreOf, new_spools, spools_of_kinds, stake_in};
 
@@ -42,6 +43,7 @@ impl Leases {
         ensures leased { IfOk result (λ made. AreOf made.0 (map stake_in made.1.items)) }
         ensures fresh { IfOk result (λ made. spools_of_kinds made.1.items ≡ new_spools spools quota) }
         ensures kinds { IfOk result (λ made. map kind_of made.1.items ≡ kinds_from choice 0 spools) }
+        ensures all_out { IfOk result (λ made. made.0.pool.free ≡ 0) }
         ensures memory { IfErr result (λ fault. fault ≡ Fault.Memory) }
     {
         let quotas = quotas(alloc, spools, quota as u32)?;
@@ -54,10 +56,10 @@ impl Leases {
         Ok((leases, spools_over(alloc, choice, accounts)?))
     }
 
-    /// Gives the spools up, and hands the pool back, with how many of its pages are missing. It takes no memory.
+    /// Gives the spools up, and hands the pool back with the pages that were out, beside how many of these are missing. It takes no memory.
     pub fn reclaim(self, spools: Vec<SpoolOfKind>) -> (Pool, usize)
         requires { AreOf self (map stake_in spools.items) }
-        ensures pool { result.0.out ≡ 0 }
+        ensures pool { result.0 ≡ with_back self.pool self.pool.out }
         ensures missing { result.1 ≡ 0 }
     {
         let Leases {

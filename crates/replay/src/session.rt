@@ -264,7 +264,8 @@ impl Session {
         ensures { Answers (state_of leased.old self.old) Command.Switch result (state_of leased.new self.new) }
     {
         let specs = build_specs(self.alloc, leased.core());
-        let (number, verdicts, pages) = leased.switch()?;
+        let (number, verdicts, back) = leased.switch()?;
+        let pages = back.missing;
         if !has_refused(&verdicts) {
             return Ok(Answer::Switched {
                 number,
@@ -285,8 +286,10 @@ impl Session {
     fn abandon<T: TableRings>(&mut self, leased: &mut LeasedCore<T>) -> Result<Answer, Fault>
         ensures { Answers (state_of leased.old self.old) Command.Abandon result (state_of leased.new self.new) }
     {
-        let pages = leased.abandon()?;
-        Ok(Answer::Abandoned { pages })
+        let back = leased.abandon()?;
+        Ok(Answer::Abandoned {
+            pages: back.missing,
+        })
     }
 
     fn side<T: TableRings>(

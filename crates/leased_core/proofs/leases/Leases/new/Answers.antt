@@ -3,7 +3,7 @@ use Rattle.spool_ledger.specs.Accounts.{new_account}
 use Rattle.spool_ledger.specs.Pools.{PoolValue}
 use Rattle.build_events.specs.CoreState.{SpoolsState}
 use Rattle.prefix_spool.proofs.Accounts.{are_whole}
-use Rattle.leased_core.proofs.OnePool.{new_are_new, split_are_of}
+use Rattle.leased_core.proofs.OnePool.{new_are_new, none_left, split_are_of}
 use Rattle.leased_core.proofs.leases.Leases.new.Goals as goal
 
 pub spools_over-requires : goal.spools_over-requires
@@ -17,7 +17,7 @@ returns-clause-leased c =
     let each : c.in_ok-accounts.accounts.items ≡ map (new_account 0) quotas =
     c.in_ok-accounts.ensures.1.each ∙ ap (λ (pool : PoolValue). map (new_account pool.number) quotas) c.in_ok-pool.ensures.ok in
     let fresh = new_are_new c.args.spools c.args.quota quotas _ _ equal each c.in_ok-spools_over.ensures.made in
-    split_are_of c.args.spools c.args.quota (c.args.spools * c.args.quota) (vec_capacity c.in_ok-with_capacity.field-0) c.in_ok-pool.pool c.split.new.self _ quotas _
+    split_are_of c.args.spools c.args.quota _ (vec_capacity c.in_ok-with_capacity.field-0) c.in_ok-pool.pool c.split.new.self _ quotas _
     c.in_ok-pool.ensures.ok c.in_ok-accounts.ensures.1.out c.pool.view_is equal c.in_ok-with_capacity.ensures.capacity
     (ap (λ (spools : SpoolsState). spools.stakes) fresh)
 
@@ -28,3 +28,9 @@ returns-clause-fresh c =
     let each : c.in_ok-accounts.accounts.items ≡ map (new_account 0) quotas =
     c.in_ok-accounts.ensures.1.each ∙ ap (λ (pool : PoolValue). map (new_account pool.number) quotas) c.in_ok-pool.ensures.ok in
     new_are_new c.args.spools c.args.quota quotas _ _ equal each c.in_ok-spools_over.ensures.made
+
+pub returns-clause-all_out : goal.returns-clause-all_out
+returns-clause-all_out c =
+    let quotas = c.as_slice.result.now in
+    let equal : quotas ≡ replicate c.args.spools c.args.quota = c.as_slice.ensures.value ∙ c.in_ok-quotas.ensures.made in
+    none_left c.args.spools c.args.quota c.in_ok-pool.pool c.split.new.self _ quotas c.in_ok-pool.ensures.ok c.in_ok-accounts.ensures.1.out c.pool.view_is equal
