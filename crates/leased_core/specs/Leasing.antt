@@ -7,6 +7,8 @@ use Rattle.spool_ledger.specs.Pools.{PoolValue, with_back}
 use Rattle.run_spool.specs.PagedSpools.{runs_of}
 use Rattle.run_spool.specs.Runs.{pairs_of}
 use Rattle.run_spool.specs.Spools.{stakes_in}
+use Rattle.run_spool.specs.declared.choice.SpoolChoice.{SpoolChoice}
+use Rattle.run_spool.specs.declared.choice.SpoolChoice.TheVariants as choice
 use Rattle.prefix_spool.specs.Kinds.{inside, IsFullOfKind}
 use Rattle.prefix_spool.specs.declared.either.SpoolOfKind.{SpoolOfKind}
 use Rattle.keybytes.specs.declared.fault.Fault.{Fault}
@@ -43,9 +45,15 @@ WantedLeasedPage = WantedPage IsFullOfKind (λ spool. runs_of (inside spool)) (�
 abbrev pub no_spools : SpoolsState
 no_spools = record { stakes = []; left = [] }
 
--- so many empty spools, each with a quota of that many pages of its own
-abbrev pub new_spools : ℕ → ℕ → SpoolsState
-new_spools count quota = record { stakes = replicate count (Some (record { pool = 0; quota = quota })); left = replicate count true }
+-- the number of a build's pool, which tells by which choice the kinds of its spools were made
+abbrev pub pool_of : SpoolChoice → ℕ
+pool_of choice.Plain = 0
+pool_of choice.Prefix = 1
+pool_of choice.Mixed = 2
+
+-- so many empty spools of the kinds that are chosen, each with a quota of that many pages of its own
+abbrev pub new_spools : SpoolChoice → ℕ → ℕ → SpoolsState
+new_spools chosen count quota = record { stakes = replicate count (Some (record { pool = pool_of chosen; quota = quota })); left = replicate count true }
 
 -- how many pages a stake has
 abbrev pub pages_of : Stake → ℕ
@@ -97,17 +105,17 @@ pub record IsHandedBack (s : CoreState) (back : HandedBack) : Type 0 where
   pub pool : MatchOption back.pool (s.live.build ≡ None) (HasPagesOf s.spools.stakes)
   pub missing : back.missing ≡ 0
 
--- the table with new spools beside it, one for each worker and index of the plan, each with a quota of that many pages
-abbrev pub with_new_spools : ℕ → Plan → CoreState → CoreState
-with_new_spools quota plan s = opening s.live (new_spools (plan.workers * length plan.specs.items) quota)
+-- the table with new spools beside it, one for each worker and index of the plan, of the kinds that are chosen and each with a quota of that many pages
+abbrev pub with_new_spools : SpoolChoice → ℕ → Plan → CoreState → CoreState
+with_new_spools chosen quota plan s = opening s.live (new_spools chosen (plan.workers * length plan.specs.items) quota)
 
 -- the start of a build over new spools is replied so
-abbrev pub StartsOver : ℕ → Plan → CoreState → Reply → CoreState → Type 0
-StartsOver quota plan old told new = Step (with_new_spools quota plan old) (Start plan) told new
+abbrev pub StartsOver : SpoolChoice → ℕ → Plan → CoreState → Reply → CoreState → Type 0
+StartsOver chosen quota plan old told new = Step (with_new_spools chosen quota plan old) (Start plan) told new
 
 -- a build does not start over new spools, or there is no memory for these
-abbrev pub FailsToStart : ℕ → Plan → CoreState → Fault → Type 0
-FailsToStart quota plan s fault = (fault ≡ Memory) ⊎ ((left : CoreState) × StartsOver quota plan s (Refused fault) left)
+abbrev pub FailsToStart : SpoolChoice → ℕ → Plan → CoreState → Fault → Type 0
+FailsToStart chosen quota plan s fault = (fault ≡ Memory) ⊎ ((left : CoreState) × StartsOver chosen quota plan s (Refused fault) left)
 
 -- an event is replied so and ends the build, and its spools are given up
 abbrev pub EndsBuild : Event → Reply → CoreState → CoreState → Type 0

@@ -119,8 +119,8 @@ impl<T: TableRings> LeasedCore<T> {
         requires workers { plan.workers ≤ 16 }
         requires indexes { vec_len plan.specs ≤ 8 }
         requires quota { quota ≤ 1024 }
-        ensures started { IfOk result (λ pages. StartsOver quota plan self.old (Reply.Started pages) self.new) }
-        ensures refused { IfErr result (FailsToStart quota plan self.old) }
+        ensures started { IfOk result (λ pages. StartsOver choice quota plan self.old (Reply.Started pages) self.new) }
+        ensures refused { IfErr result (FailsToStart choice quota plan self.old) }
         ensures unchanged { OnErr result (self.new ≡ self.old) }
     {
         let spools = plan.workers * plan.specs.len();

@@ -20,6 +20,7 @@ use Rattle.build_events.specs.declared.event.Event.TheVariants as event
 use Rattle.build_events.specs.declared.plan.Plan.{Plan}
 use Rattle.build_events.specs.declared.reply.Reply.{Reply}
 use Rattle.build_events.specs.declared.reply.Reply.TheVariants as reply
+use Rattle.run_spool.specs.declared.choice.SpoolChoice.{SpoolChoice}
 use Rattle.script.specs.declared.command.Command.{Command}
 use Rattle.script.specs.declared.command.Command.TheVariants.{Row, Begin, Insert, Update, Delete, Undo, Commit, Get, Start as StartCommand, Spools, Scan, Digest}
 use Rattle.script.specs.declared.command.Command.TheVariants.{Seal, Load, Feed, Apply, Fence, Switch, Abandon, Side, Pairs, Rest}
@@ -120,16 +121,16 @@ GivesRow rid old given new =
     ((row : List Cell) × (given ≡ answer.Cells row) × (live_at old.live.heap.log rid ≡ Some row) × (new ≡ with_heap old (after_visit old.live.heap)))
     ⊎ ((fault : Fault) × RefusedFor (row_missing (live_at old.live.heap.log rid)) fault × Refuses fault old given new)
 
--- a build starts over new spools; or that is refused, and nothing changes
-abbrev pub StartsByPlan : ℕ → Plan → CoreState → Answer → CoreState → Type 0
-StartsByPlan quota plan old given new =
-    ((pages : ℕ) × (given ≡ answer.Number pages) × StartsOver quota plan old (reply.Started pages) new)
-    ⊎ ((fault : Fault) × FailsToStart quota plan old fault × Refuses fault old given new)
+-- a build starts over new spools of the kinds that are chosen; or that is refused, and nothing changes
+abbrev pub StartsByPlan : SpoolChoice → ℕ → Plan → CoreState → Answer → CoreState → Type 0
+StartsByPlan chosen quota plan old given new =
+    ((pages : ℕ) × (given ≡ answer.Number pages) × StartsOver chosen quota plan old (reply.Started pages) new)
+    ⊎ ((fault : Fault) × FailsToStart chosen quota plan old fault × Refuses fault old given new)
 
 -- a build starts by the plan that is asked for, or a key specification is refused; want of memory aside
-abbrev pub StartsBuild : Start → CoreState → Answer → CoreState → Type 0
-StartsBuild start old given new =
-    ((plan : Plan) × IsPlanOf old.live.heap.schema start plan × StartsByPlan start.quota plan old given new)
+abbrev pub StartsBuild : SpoolChoice → Start → CoreState → Answer → CoreState → Type 0
+StartsBuild chosen start old given new =
+    ((plan : Plan) × IsPlanOf old.live.heap.schema start plan × StartsByPlan chosen start.quota plan old given new)
     ⊎ ((fault : Fault) × (fault ≢ Memory → specs_refusal old.live.heap.schema start.specs.items ≡ Some fault) × Refuses fault old given new)
 
 -- a switch decides: the build has ended, and no page of its spools is missing; of indexes that it refused lines tell, unless there was no memory for
@@ -149,29 +150,29 @@ GivesUp old given new =
     ((given ≡ answer.Abandoned 0) × EndsBuild event.Abandon reply.Abandoned old new)
     ⊎ ((fault : Fault) × (given ≡ answer.Refused fault) × Step old event.Abandon (reply.Refused fault) new)
 
--- the command is carried out, with labels that name these transactions
-abbrev pub CarriesOut : Labels → Command → CoreState → Answer → CoreState → Type 0
-CarriesOut labels (Row cells) old given new = Unless (row_refusal cells.items) (AddsRow cells.items) old given new
-CarriesOut labels (Begin label) old given new = BeginsTxn old given new
-CarriesOut labels (Insert label cells) old given new =
+-- the command is carried out, with labels that name these transactions, and spools of the kinds that are chosen
+abbrev pub CarriesOut : Labels → SpoolChoice → Command → CoreState → Answer → CoreState → Type 0
+CarriesOut labels chosen (Row cells) old given new = Unless (row_refusal cells.items) (AddsRow cells.items) old given new
+CarriesOut labels chosen (Begin label) old given new = BeginsTxn old given new
+CarriesOut labels chosen (Insert label cells) old given new =
     Unless (row_refusal cells.items) (OnTxn (named labels label) (λ txn. Happens (event.Insert txn cells.items))) old given new
-CarriesOut labels (Update label rid cells) old given new =
+CarriesOut labels chosen (Update label rid cells) old given new =
     Unless (row_refusal cells.items) (OnTxn (named labels label) (λ txn. Happens (event.Update txn rid cells.items))) old given new
-CarriesOut labels (Delete label rid) old given new = OnTxn (named labels label) (λ txn. Happens (event.Delete txn rid)) old given new
-CarriesOut labels (Undo label) old given new = OnTxn (named labels label) (λ txn. Happens (event.Undo txn)) old given new
-CarriesOut labels (Commit label) old given new = OnTxn (named labels label) (λ txn. Happens (event.Commit txn)) old given new
-CarriesOut labels (Get rid) old given new = GivesRow rid old given new
-CarriesOut labels (StartCommand start) old given new = Unless (planning_refusal old start) (StartsBuild start) old given new
-CarriesOut labels (Spools choice) old given new = (given ≡ answer.Done) × (new ≡ old)
-CarriesOut labels (Scan range worker) old given new = Happens (event.Scan range worker) old given new
-CarriesOut labels (Digest worker) old given new = Happens (event.Digest worker) old given new
-CarriesOut labels (Seal worker) old given new = Happens (event.Seal worker) old given new
-CarriesOut labels (Load index) old given new = Happens (event.Load index) old given new
-CarriesOut labels (Feed index most) old given new = Happens (event.Feed index most) old given new
-CarriesOut labels (Apply index most) old given new = Happens (event.Apply index most) old given new
-CarriesOut labels Fence old given new = Happens event.Fence old given new
-CarriesOut labels Switch old given new = Decides old given new
-CarriesOut labels Abandon old given new = GivesUp old given new
-CarriesOut labels (Side index) old given new = ListsSide index old given new
-CarriesOut labels (Pairs number) old given new = ListsIndex number old given new
-CarriesOut labels (Rest spec) old given new = ListsRest spec old given new
+CarriesOut labels chosen (Delete label rid) old given new = OnTxn (named labels label) (λ txn. Happens (event.Delete txn rid)) old given new
+CarriesOut labels chosen (Undo label) old given new = OnTxn (named labels label) (λ txn. Happens (event.Undo txn)) old given new
+CarriesOut labels chosen (Commit label) old given new = OnTxn (named labels label) (λ txn. Happens (event.Commit txn)) old given new
+CarriesOut labels chosen (Get rid) old given new = GivesRow rid old given new
+CarriesOut labels chosen (StartCommand start) old given new = Unless (planning_refusal old start) (StartsBuild chosen start) old given new
+CarriesOut labels chosen (Spools choice) old given new = (given ≡ answer.Done) × (new ≡ old)
+CarriesOut labels chosen (Scan range worker) old given new = Happens (event.Scan range worker) old given new
+CarriesOut labels chosen (Digest worker) old given new = Happens (event.Digest worker) old given new
+CarriesOut labels chosen (Seal worker) old given new = Happens (event.Seal worker) old given new
+CarriesOut labels chosen (Load index) old given new = Happens (event.Load index) old given new
+CarriesOut labels chosen (Feed index most) old given new = Happens (event.Feed index most) old given new
+CarriesOut labels chosen (Apply index most) old given new = Happens (event.Apply index most) old given new
+CarriesOut labels chosen Fence old given new = Happens event.Fence old given new
+CarriesOut labels chosen Switch old given new = Decides old given new
+CarriesOut labels chosen Abandon old given new = GivesUp old given new
+CarriesOut labels chosen (Side index) old given new = ListsSide index old given new
+CarriesOut labels chosen (Pairs number) old given new = ListsIndex number old given new
+CarriesOut labels chosen (Rest spec) old given new = ListsRest spec old given new
