@@ -138,8 +138,8 @@ pub fn build_lines(
     specs: Option<Vec<KeySpec>>,
     verdicts: &Verdicts,
 ) -> Vec<SharedLine>
-    requires keys { IfSome specs (λ specs. HaveSharedKeys specs.items verdicts.now) }
-    ensures lists { IsSomeAnd specs (λ specs. ListsShared 0 specs.items verdicts.now result.items) ⊎ (result.items ≡ []) }
+    requires { IfSome specs (λ specs. HaveSharedKeys specs.items verdicts.now) }
+    ensures { IsSomeAnd specs (λ specs. ListsShared 0 specs.items verdicts.now result.items) ⊎ (result.items ≡ []) }
 {
     match specs {
         Some(specs) => shared_lines(alloc, specs.as_slice(), verdicts.as_slice()),

@@ -13,6 +13,9 @@ numbered : (quotas : List ℕ) (accounts : List AccountValue) (pool : PoolValue)
 numbered quotas accounts pool chosen number pages made is each =
     each ∙ ap (λ (n : ℕ). map (new_account n) quotas) (ap (λ (pool : PoolValue). pool.number) made ∙ is)
 
+made_for : (pool : PoolValue) (chosen number pages : ℕ) → pool ≡ new_pool number pages → number ≡ chosen → pool ≡ new_pool chosen pages
+made_for pool chosen number pages made is = made ∙ ap (λ (n : ℕ). new_pool n pages) is
+
 pub spools_over-requires : goal.spools_over-requires
 spools_over-requires c =
     are_whole c.in_ok-pool.pool.number c.as_slice.result.now c.in_ok-accounts.accounts.items c.in_ok-accounts.ensures.1.each
@@ -24,7 +27,7 @@ returns-clause-leased c =
     let each = numbered quotas _ _ (pool_of c.args.choice) _ _ c.in_ok-pool.ensures.ok c.pool_of.ensures c.in_ok-accounts.ensures.1.each in
     let fresh = new_are_new c.args.choice c.args.spools c.args.quota quotas _ _ equal each c.in_ok-spools_over.ensures.made in
     split_are_of c.args.choice c.args.spools c.args.quota _ (vec_capacity c.in_ok-with_capacity.field-0) c.in_ok-pool.pool c.split.new.self _ quotas _
-    (c.in_ok-pool.ensures.ok ∙ ap (λ (number : ℕ). new_pool number _) c.pool_of.ensures) c.in_ok-accounts.ensures.1.out c.pool.view_is equal
+    (made_for c.in_ok-pool.pool (pool_of c.args.choice) _ _ c.in_ok-pool.ensures.ok c.pool_of.ensures) c.in_ok-accounts.ensures.1.out c.pool.view_is equal
     c.in_ok-with_capacity.ensures.capacity (ap (λ (spools : SpoolsState). spools.stakes) fresh)
 
 pub returns-clause-fresh : goal.returns-clause-fresh

@@ -6,8 +6,8 @@ use Rattle.replay.specs.Listings.{ListsShared}
 use Rattle.replay.specs.declared.answer.Answer.TheVariants as answer
 use Rattle.replay.proofs.session.Session.switch.Goals as goal
 
-pub build_lines-requires : goal.build_lines-requires
-build_lines-requires g c =
+pub build_lines-shared-requires : goal.build_lines-shared-requires
+build_lines-shared-requires g c =
     let copies = c.build_specs-specs.result in
     copies_make_keys c.args.leased.now.live.build copies c.in_ok-number.verdicts
     (subst (λ (s : CoreState). AreCopies s.live.build copies) c.core.ensures c.build_specs-specs.ensures) c.in_ok-number.ensures.keys
@@ -23,7 +23,7 @@ returns g c =
     let told : OnBuild build (λ b. ListsShared 0 b.specs verdicts lines.items) ⊎ (lines.items ≡ []) =
     lines_of_build build copies verdicts lines.items copied c.build_lines-shared.ensures in
     record {
-      core = inr (inl (number, verdicts, lines, ap (λ (pages : ℕ). answer.SomeRefused number verdicts lines pages) c.in_ok-number.ensures.back, told, c.in_ok-number.ensures.decided));
+      core = inr (inl (number, verdicts, lines, ap (λ (pages : ℕ). answer.SomeRefused number verdicts lines pages) c.in_ok-number.ensures.back.missing, told, c.in_ok-number.ensures.decided));
       labels = refl;
       choice = refl;
       status = refl;
