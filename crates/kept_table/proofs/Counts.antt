@@ -23,6 +23,7 @@ use Rattle.build_events.specs.declared.event.Event.TheVariants.{Begin, Insert, U
 use Rattle.build_events.specs.declared.plan.Plan.{Plan}
 use Rattle.build_events.specs.declared.reply.Reply.{Reply}
 use Rattle.build_events.specs.declared.reply.Reply.TheVariants.{Begun, Written, Undone, Committed, Started, Digested, Sealed, Loaded, Fed, Applied, FenceSet, Refused}
+use Rattle.run_spool.specs.declared.choice.SpoolChoice.{SpoolChoice}
 use Rattle.live_lemmas.proofs.Starts.{has_counts}
 use Rattle.leased_core.specs.Leasing.{EndsBuild, KeepsBuild, StartsOver, with_new_spools}
 use Rattle.kept_table.specs.Counts.{AreFed, Counts, HasItsWork, HasLaws, IsCounted, count_after}
@@ -336,11 +337,11 @@ unless_none true fault is = refl
 unless_none false fault is = absurd (cc)
 
 pub start_sound :
-    (s new : CoreState) (quota : ℕ) (plan : Plan) (pages : ℕ) → StartsOver quota plan s (Started pages) new
+    (s new : CoreState) (chosen : SpoolChoice) (quota : ℕ) (plan : Plan) (pages : ℕ) → StartsOver chosen quota plan s (Started pages) new
     → IsSound (record { all = pages; copied = 0 }) new
-start_sound s new quota plan pages (inl (fault, is, refused)) = absurd (let bad : Started pages ≡ Refused fault = is in cc)
-start_sound s new quota plan pages (inr (none, does)) =
-    let before : CoreState = with_new_spools quota plan s in
+start_sound s new chosen quota plan pages (inl (fault, is, refused)) = absurd (let bad : Started pages ≡ Refused fault = is in cc)
+start_sound s new chosen quota plan pages (inr (none, does)) =
+    let before : CoreState = with_new_spools chosen quota plan s in
     let b : BuildState = started before.live plan in
     let behind = both_none (cause_if (is_some before.live.build) BuildRunning) _ none in
     let fit = both_none (cause_if (not (counts_fit before.live (length before.spools.left) plan)) BadCount) _ behind.1 in
@@ -361,12 +362,12 @@ start_sound s new quota plan pages (inr (none, does)) =
 
 -- so too where it was refused
 pub told_start_sound :
-    (count after : PageCount) (s new : CoreState) (quota : ℕ) (plan : Plan) (told : Result ℕ Fault)
-    → IfOk told (λ pages. StartsOver quota plan s (Started pages) new) → OnErr told (new ≡ s)
+    (count after : PageCount) (s new : CoreState) (chosen : SpoolChoice) (quota : ℕ) (plan : Plan) (told : Result ℕ Fault)
+    → IfOk told (λ pages. StartsOver chosen quota plan s (Started pages) new) → OnErr told (new ≡ s)
     → IfOk told (λ pages. after ≡ record { all = pages; copied = 0 }) → OnErr told (after ≡ count) → IsSound count s → IsSound after new
-told_start_sound count after s new quota plan (Ok pages) starts same fresh stays sound =
-    subst (λ (it : PageCount). IsSound it new) (sym fresh) (start_sound s new quota plan pages starts)
-told_start_sound count after s new quota plan (Err fault) starts same fresh stays sound =
+told_start_sound count after s new chosen quota plan (Ok pages) starts same fresh stays sound =
+    subst (λ (it : PageCount). IsSound it new) (sym fresh) (start_sound s new chosen quota plan pages starts)
+told_start_sound count after s new chosen quota plan (Err fault) starts same fresh stays sound =
     subst (λ (it : PageCount). IsSound it new) (sym stays) (same_sound count s new same sound)
 
 no_build_left : (live : LiveState) → (abandoned live).build ≡ None

@@ -6,6 +6,7 @@ use Rattle.keybytes.specs.declared.fault.Fault.TheVariants.{BuildRunning, BadCou
 use Rattle.build_events.specs.BuildSteps.{cause_if, indexes_most, workers_most}
 use Rattle.build_events.specs.CoreState.{CoreState}
 use Rattle.build_events.specs.declared.plan.Plan.{Plan}
+use Rattle.run_spool.specs.declared.choice.SpoolChoice.{SpoolChoice}
 use Rattle.leased_core.specs.Leasing.{FailsToStart}
 
 -- the most pages that a spool may lease
@@ -19,5 +20,6 @@ start_limits_refusal quota plan s =
     (cause_if (not (nat_le plan.workers workers_most && nat_le (length plan.specs.items) indexes_most && nat_le quota quota_most)) BadCount)
 
 -- a build does not start for that fault
-abbrev pub RefusesStart : ℕ → Plan → CoreState → Fault → Type 0
-RefusesStart quota plan s fault = MatchOption (start_limits_refusal quota plan s) (FailsToStart quota plan s fault) (λ cause. fault ≡ cause)
+abbrev pub RefusesStart : SpoolChoice → ℕ → Plan → CoreState → Fault → Type 0
+RefusesStart chosen quota plan s fault =
+    MatchOption (start_limits_refusal quota plan s) (FailsToStart chosen quota plan s fault) (λ cause. fault ≡ cause)

@@ -24,9 +24,9 @@ impl Kept {
     /// table it reads. [`Fault::BuildRunning`]; [`Fault::BadCount`] for more than 16 workers, 8 indexes or 1,024 pages a spool; then why the plan
     /// starts none. Where that is refused the spools are given up again.
     pub fn start(&mut self, choice: SpoolChoice, quota: usize, plan: Plan) -> Result<u32, Fault>
-        ensures started { IfOk result (λ pages. StartsOver quota plan self.old.core (Reply.Started pages) self.new.core) }
+        ensures started { IfOk result (λ pages. StartsOver choice quota plan self.old.core (Reply.Started pages) self.new.core) }
         ensures accepted { OnOk result (start_limits_refusal quota plan self.old.core ≡ None) }
-        ensures refused { IfErr result (RefusesStart quota plan self.old.core) }
+        ensures refused { IfErr result (RefusesStart choice quota plan self.old.core) }
         ensures unchanged { OnErr result (self.new ≡ self.old) }
         ensures decided { self.new.decided ≡ self.old.decided }
         ensures waited { OnOk result (self.new.waited ≡ None) }
@@ -76,9 +76,9 @@ fn started<T: TableRings>(
 ) -> (UnnamedCounted, Result<u32, Fault>)
     requires pages { table.pages ≡ T.pages }
     requires sides { table.sides ≡ T.sides }
-    ensures started { IfOk result.1 (λ pages. StartsOver quota plan table.core (Reply.Started pages) result.0.core) }
+    ensures started { IfOk result.1 (λ pages. StartsOver choice quota plan table.core (Reply.Started pages) result.0.core) }
     ensures accepted { OnOk result.1 (start_limits_refusal quota plan table.core ≡ None) }
-    ensures refused { IfErr result.1 (RefusesStart quota plan table.core) }
+    ensures refused { IfErr result.1 (RefusesStart choice quota plan table.core) }
     ensures unchanged { OnErr result.1 (result.0.core ≡ table.core) }
 {
     let mut named = table.open::<T>();
@@ -93,9 +93,9 @@ fn start_in_limits<T: TableRings>(
     quota: usize,
     plan: Plan,
 ) -> Result<u32, Fault>
-    ensures started { IfOk result (λ pages. StartsOver quota plan counted.old (Reply.Started pages) counted.new) }
+    ensures started { IfOk result (λ pages. StartsOver choice quota plan counted.old (Reply.Started pages) counted.new) }
     ensures accepted { OnOk result (start_limits_refusal quota plan counted.old ≡ None) }
-    ensures refused { IfErr result (RefusesStart quota plan counted.old) }
+    ensures refused { IfErr result (RefusesStart choice quota plan counted.old) }
     ensures unchanged { OnErr result (counted.new ≡ counted.old) }
 {
     if counted.core().is_building() {

@@ -6,7 +6,7 @@ ghost use Rattle.build_events.specs.BuildSteps.{OnBuild};
 ghost use Rattle.build_events.specs.CoreState.{with_heap};
 ghost use Rattle.build_events.specs.Steps.{HasPageCause, Step};
 ghost use Rattle.build_events.specs.Verdicts.{HaveSharedKeys};
-ghost use Rattle.leased_core.specs.Leasing.{EndsBuild, FailsToStart, KeepsBuild, StartsOver, WantedLeasedPage};
+ghost use Rattle.leased_core.specs.Leasing.{EndsBuild, FailsToStart, IsHandedBack, KeepsBuild, StartsOver, WantedLeasedPage};
 ghost use Rattle.kept_table.specs.Counts.{HasLaws};
 ghost use Rattle.kept_table.specs.KeptTables.{new_table};
 ghost use Rattle.kept_table.specs.Progresses.{pages_copied, pages_read};
@@ -15,7 +15,7 @@ use crate::page_count::PageCount;
 use builder_core::{Core, Event, Parts, Plan, Reply, TableRings};
 use heap_log::Verdicts;
 use keybytes::{Fault, Rid, Row};
-use leased_core::LeasedCore;
+use leased_core::{HandedBack, LeasedCore};
 use prefix_spool::SpoolOfKind;
 use run_spool::SpoolChoice;
 use std::alloc::Global;
@@ -54,9 +54,9 @@ impl<T: TableRings> Counted<T> {
         }
     }
 
-    /// Gives up what is left of a build, and answers how many leased pages are missing.
-    pub(crate) fn close(self) -> usize
-        ensures { result ≡ 0 }
+    /// Gives up what is left of a build, and hands its pool back.
+    pub(crate) fn close(self) -> HandedBack
+        ensures { IsHandedBack self result }
     {
         let Counted { leased, pages: _ } = self;
         leased.close()
@@ -111,8 +111,8 @@ impl<T: TableRings> Counted<T> {
         requires workers { plan.workers ≤ 16 }
         requires indexes { vec_len plan.specs ≤ 8 }
         requires quota { quota ≤ 1024 }
-        ensures started { IfOk result (λ pages. StartsOver quota plan self.old (Reply.Started pages) self.new) }
-        ensures refused { IfErr result (FailsToStart quota plan self.old) }
+        ensures started { IfOk result (λ pages. StartsOver choice quota plan self.old (Reply.Started pages) self.new) }
+        ensures refused { IfErr result (FailsToStart choice quota plan self.old) }
         ensures unchanged { OnErr result (self.new ≡ self.old) }
     {
         let started = self.leased.start(choice, quota, plan);
@@ -128,7 +128,7 @@ impl<T: TableRings> Counted<T> {
         ensures refused { IfErr result (λ fault. Step self.old Event.Switch (Reply.Refused fault) self.new) }
     {
         match self.leased.switch() {
-            Ok((number, verdicts, _missing)) => Ok((number, verdicts)),
+            Ok((number, verdicts, _back)) => Ok((number, verdicts)),
             Err(fault) => Err(fault),
         }
     }
@@ -139,7 +139,7 @@ impl<T: TableRings> Counted<T> {
         ensures refused { IfErr result (λ fault. Step self.old Event.Abandon (Reply.Refused fault) self.new) }
     {
         match self.leased.abandon() {
-            Ok(_missing) => Ok(()),
+            Ok(_back) => Ok(()),
             Err(fault) => Err(fault),
         }
     }

@@ -1,6 +1,6 @@
 ghost use Rattle.std.specs.Prelude.{◌≡◌, true, None, Some, is_some, IfOk, IfErr};
 ghost use Rattle.build_events.specs.Steps.{HasPageCause, Step};
-ghost use Rattle.leased_core.specs.Leasing.{KeepsBuild, WantedLeasedPage};
+ghost use Rattle.leased_core.specs.Leasing.{IsHandedBack, KeepsBuild, WantedLeasedPage};
 ghost use Rattle.kept_table.specs.KeptTables.{new_table};
 
 use crate::counted::Counted;
@@ -10,13 +10,14 @@ use crate::waits::Waits;
 use builder_core::{Event, Parts, Reply, TableRings};
 use heap_table::Heap;
 use keybytes::Fault;
+use leased_core::HandedBack;
 use std::alloc::Global;
 use std::marker::{Brand, Model};
 
 /// A table with its builds, without a name, what its newest switch decided, and how many entries waited behind the last piece that caught up of the
 /// build that runs. Contracts see the core, and these.
 ///
-/// To let it go lets the table go, and with it the pool and the spools of a build that runs: [`Kept::close`] counts their pages.
+/// To let it go lets the table go, and with it the pool and the spools of a build that runs: [`Kept::close`] hands the pool back with their pages.
 pub struct Kept {
     /// It is there but for the time that a call works on it.
     pub(crate) table: Option<UnnamedCounted>,
@@ -63,9 +64,9 @@ impl Kept {
         }
     }
 
-    /// Gives up what is left of a build, and answers how many leased pages are missing.
-    pub fn close(self) -> usize
-        ensures { result ≡ 0 }
+    /// Gives up what is left of a build, and hands its pool back.
+    pub fn close(self) -> HandedBack
+        ensures { IsHandedBack self.core result }
     {
         let Kept {
             table,
@@ -74,7 +75,7 @@ impl Kept {
         } = self;
         match table {
             Some(table) => closed::<Brand>(table),
-            None => 0,
+            None => unreachable!(),
         }
     }
 
@@ -113,10 +114,10 @@ fn opened<T: TableRings>(alloc: Global, parts: Parts) -> UnnamedCounted
 }
 
 /// The table under a name, to be closed.
-fn closed<T: TableRings>(table: UnnamedCounted) -> usize
+fn closed<T: TableRings>(table: UnnamedCounted) -> HandedBack
     requires pages { table.pages ≡ T.pages }
     requires sides { table.sides ≡ T.sides }
-    ensures { result ≡ 0 }
+    ensures { IsHandedBack table.core result }
 {
     table.open::<T>().close()
 }

@@ -183,6 +183,7 @@ follows None old new kept rest = record {
 follows (Some leases) old new kept leasing = record {
   build = kept.build ∙ leasing.build;
   stakes = subst (λ (spools : SpoolsState). AreOf leases spools.stakes) (sym kept.spools) leasing.stakes;
+  all_out = leasing.all_out;
 }
 
 -- the pages that are leased are those of the build still
@@ -239,10 +240,10 @@ abandon_refused old new fault (inr (none, (is, does))) = absurd (let both : Refu
 
 -- behind a start the pages of its spools are leased
 pub start_leases : (leases : LeasesValue) (old new : CoreState) (plan : Plan) (pages : ℕ) → Step old (Start plan) (Started pages) new
-    → AreOf leases old.spools.stakes → LeasesFollow (Some leases) new
-start_leases leases old new plan pages (inl (fault, is, refused)) of = absurd (let both : Started pages ≡ Refused fault = is in cc)
-start_leases leases old new plan pages (inr (none, (answer, is, (told, after)))) of =
-    subst (IsLeasing leases) (sym after) (record { build = refl; stakes = of })
+    → AreOf leases old.spools.stakes → leases.pool.free ≡ 0 → LeasesFollow (Some leases) new
+start_leases leases old new plan pages (inl (fault, is, refused)) of out = absurd (let both : Started pages ≡ Refused fault = is in cc)
+start_leases leases old new plan pages (inr (none, (answer, is, (told, after)))) of out =
+    subst (IsLeasing leases) (sym after) (record { build = refl; stakes = of; all_out = out })
 
 leased : (leases : Option LeasesValue) (s : CoreState) (spools : SpoolsState) → spools ≡ s.spools → LeasesFollow leases s → AreLeased leases spools.stakes
 leased None s spools same rest = tt

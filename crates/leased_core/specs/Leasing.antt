@@ -1,11 +1,14 @@
 -- The pages that the spools of a build lease, and how a table stands before a build and behind it.
-use Rattle.std.specs.Prelude.{◌≡◌, ◌⊎◌, ℕ, ◌*◌, ◌≤◌, true, is_some, List, [], length, replicate, Option, Some, None}
+use Rattle.std.specs.Prelude.{◌≡◌, ◌⊎◌, ℕ, ◌*◌, ◌≤◌, true, is_some, List, [], length, replicate, Option, Some, None, MatchOption}
 use Rattle.std.specs.List.{All, sum_by}
+use Rattle.std.specs.Option.{option_map}
 use Rattle.spool_ledger.specs.Accounts.{Stake, stake_of}
-use Rattle.spool_ledger.specs.Pools.{PoolValue}
+use Rattle.spool_ledger.specs.Pools.{PoolValue, with_back}
 use Rattle.run_spool.specs.PagedSpools.{runs_of}
 use Rattle.run_spool.specs.Runs.{pairs_of}
 use Rattle.run_spool.specs.Spools.{stakes_in}
+use Rattle.run_spool.specs.declared.choice.SpoolChoice.{SpoolChoice}
+use Rattle.run_spool.specs.declared.choice.SpoolChoice.TheVariants as choice
 use Rattle.prefix_spool.specs.Kinds.{inside, IsFullOfKind}
 use Rattle.prefix_spool.specs.declared.either.SpoolOfKind.{SpoolOfKind}
 use Rattle.keybytes.specs.declared.fault.Fault.{Fault}
@@ -19,6 +22,7 @@ use Rattle.build_events.specs.declared.event.Event.TheVariants.{Begin, Insert, U
 use Rattle.build_events.specs.declared.plan.Plan.{Plan}
 use Rattle.build_events.specs.declared.reply.Reply.{Reply}
 use Rattle.build_events.specs.declared.reply.Reply.TheVariants.{Refused}
+use Rattle.leased_core.specs.declared.handed_back.HandedBack.{HandedBack}
 
 -- the pool of a build's pages, and for how many of its accounts there is room
 pub record LeasesValue : Type 0 where
@@ -41,18 +45,28 @@ WantedLeasedPage = WantedPage IsFullOfKind (λ spool. runs_of (inside spool)) (�
 abbrev pub no_spools : SpoolsState
 no_spools = record { stakes = []; left = [] }
 
--- so many empty spools, each with a quota of that many pages of its own
-abbrev pub new_spools : ℕ → ℕ → SpoolsState
-new_spools count quota = record { stakes = replicate count (Some (record { pool = 0; quota = quota })); left = replicate count true }
+-- the number of a build's pool, which tells by which choice the kinds of its spools were made
+abbrev pub pool_of : SpoolChoice → ℕ
+pool_of choice.Plain = 0
+pool_of choice.Prefix = 1
+pool_of choice.Mixed = 2
+
+-- so many empty spools of the kinds that are chosen, each with a quota of that many pages of its own
+abbrev pub new_spools : SpoolChoice → ℕ → ℕ → SpoolsState
+new_spools chosen count quota = record { stakes = replicate count (Some (record { pool = pool_of chosen; quota = quota })); left = replicate count true }
 
 -- how many pages a stake has
 abbrev pub pages_of : Stake → ℕ
 pages_of stake = stake.quota
 
+-- how many pages these accounts have together
+abbrev pub pages_in : List (Option Stake) → ℕ
+pages_in stakes = sum_by pages_of (stakes_in stakes)
+
 -- the accounts behind spools are of that pool, have together the pages that it has split off, and find room beside it
 pub record AreOf (leases : LeasesValue) (stakes : List (Option Stake)) : Type 0 where
   pub own : All (λ stake. stake.pool ≡ leases.pool.number) (stakes_in stakes)
-  pub out : sum_by pages_of (stakes_in stakes) ≡ leases.pool.out
+  pub out : pages_in stakes ≡ leases.pool.out
   pub room : length stakes ≤ leases.room
 
 -- no build runs beside the table, and there are no spools
@@ -61,10 +75,11 @@ pub record IsAtRest (s : CoreState) : Type 0 where
   pub work : s.work ≡ idle
   pub spools : s.spools ≡ no_spools
 
--- a build runs, and the accounts behind its spools are of that pool
+-- a build runs, the accounts behind its spools are of that pool, and it has no other pages
 pub record IsLeasing (leases : LeasesValue) (s : CoreState) : Type 0 where
   pub build : is_some s.live.build ≡ true
   pub stakes : AreOf leases s.spools.stakes
+  pub all_out : leases.pool.free ≡ 0
 
 -- pages are leased exactly while a build runs
 abbrev pub LeasesFollow : Option LeasesValue → CoreState → Type 0
@@ -76,17 +91,31 @@ abbrev pub AreLeased : Option LeasesValue → List (Option Stake) → Type 0
 AreLeased None stakes = Unit {0}
 AreLeased (Some leases) stakes = AreOf leases stakes
 
--- the table with new spools beside it, one for each worker and index of the plan, each with a quota of that many pages
-abbrev pub with_new_spools : ℕ → Plan → CoreState → CoreState
-with_new_spools quota plan s = opening s.live (new_spools (plan.workers * length plan.specs.items) quota)
+-- a pool comes back, if there was one, with the pages that were out; and none is missing
+pub record IsBackOf (leases : Option LeasesValue) (back : HandedBack) : Type 0 where
+  pub pool : back.pool ≡ option_map (λ leases. with_back leases.pool leases.pool.out) leases
+  pub missing : back.missing ≡ 0
+
+-- the pool has as many pages as these accounts had together, and none is out
+abbrev pub HasPagesOf : List (Option Stake) → PoolValue → Type 0
+HasPagesOf stakes pool = (pool.free ≡ pages_in stakes) × (pool.out ≡ 0)
+
+-- the pages that the spools of the build had leased are back in its pool, and none is missing; where no build ran there is no pool
+pub record IsHandedBack (s : CoreState) (back : HandedBack) : Type 0 where
+  pub pool : MatchOption back.pool (s.live.build ≡ None) (HasPagesOf s.spools.stakes)
+  pub missing : back.missing ≡ 0
+
+-- the table with new spools beside it, one for each worker and index of the plan, of the kinds that are chosen and each with a quota of that many pages
+abbrev pub with_new_spools : SpoolChoice → ℕ → Plan → CoreState → CoreState
+with_new_spools chosen quota plan s = opening s.live (new_spools chosen (plan.workers * length plan.specs.items) quota)
 
 -- the start of a build over new spools is replied so
-abbrev pub StartsOver : ℕ → Plan → CoreState → Reply → CoreState → Type 0
-StartsOver quota plan old told new = Step (with_new_spools quota plan old) (Start plan) told new
+abbrev pub StartsOver : SpoolChoice → ℕ → Plan → CoreState → Reply → CoreState → Type 0
+StartsOver chosen quota plan old told new = Step (with_new_spools chosen quota plan old) (Start plan) told new
 
 -- a build does not start over new spools, or there is no memory for these
-abbrev pub FailsToStart : ℕ → Plan → CoreState → Fault → Type 0
-FailsToStart quota plan s fault = (fault ≡ Memory) ⊎ ((left : CoreState) × StartsOver quota plan s (Refused fault) left)
+abbrev pub FailsToStart : SpoolChoice → ℕ → Plan → CoreState → Fault → Type 0
+FailsToStart chosen quota plan s fault = (fault ≡ Memory) ⊎ ((left : CoreState) × StartsOver chosen quota plan s (Refused fault) left)
 
 -- an event is replied so and ends the build, and its spools are given up
 abbrev pub EndsBuild : Event → Reply → CoreState → CoreState → Type 0

@@ -8,8 +8,10 @@ ghost use Rattle.build_events.specs.CoreState.{opening, with_heap};
 ghost use Rattle.build_events.specs.BuildSteps.{OnBuild};
 ghost use Rattle.build_events.specs.Steps.{AnswersBy, HasPageCause, Step};
 ghost use Rattle.build_events.specs.Verdicts.{HaveSharedKeys};
-ghost use Rattle.leased_core.specs.Leasing.{AreLeased, EndsBuild, FailsToStart, KeepsBuild, StartsOver, WantedLeasedPage, no_spools, stake_in, OnlyVisits};
+ghost use Rattle.leased_core.specs.Leasing.{AreLeased, EndsBuild, FailsToStart, IsBackOf, IsHandedBack, KeepsBuild, OnlyVisits, StartsOver, WantedLeasedPage};
+ghost use Rattle.leased_core.specs.Leasing.{no_spools, stake_in};
 
+use crate::handed_back::HandedBack;
 use crate::leases::Leases;
 use builder_core::{Core, Ends, Event, Live, Plan, Reply, TableRings};
 use heap_log::Verdicts;
@@ -53,9 +55,9 @@ impl<T: TableRings> LeasedCore<T> {
         }
     }
 
-    /// Gives up what is left of a build, and answers how many leased pages are missing.
-    pub fn close(self) -> usize
-        ensures { result ≡ 0 }
+    /// Gives up what is left of a build, and hands its pool back.
+    pub fn close(self) -> HandedBack
+        ensures { IsHandedBack self result }
     {
         let LeasedCore {
             alloc: _alloc,
@@ -117,8 +119,8 @@ impl<T: TableRings> LeasedCore<T> {
         requires workers { plan.workers ≤ 16 }
         requires indexes { vec_len plan.specs ≤ 8 }
         requires quota { quota ≤ 1024 }
-        ensures started { IfOk result (λ pages. StartsOver quota plan self.old (Reply.Started pages) self.new) }
-        ensures refused { IfErr result (FailsToStart quota plan self.old) }
+        ensures started { IfOk result (λ pages. StartsOver choice quota plan self.old (Reply.Started pages) self.new) }
+        ensures refused { IfErr result (FailsToStart choice quota plan self.old) }
         ensures unchanged { OnErr result (self.new ≡ self.old) }
     {
         let spools = plan.workers * plan.specs.len();
@@ -138,22 +140,22 @@ impl<T: TableRings> LeasedCore<T> {
     }
 
     /// Tries to bring the build's indexes into use. Once that is decided the spools are given up: behind the number of the log record
-    /// and the verdicts stands how many of their pages are missing.
-    pub fn switch(&mut self) -> Result<(usize, Verdicts, usize), Fault>
+    /// and the verdicts stands their pool.
+    pub fn switch(&mut self) -> Result<(usize, Verdicts, HandedBack), Fault>
         ensures decided { IfOk result (λ told. EndsBuild Event.Switch (Reply.Switched told.0 told.1) self.old self.new) }
         ensures keys { IfOk result (λ told. OnBuild self.old.live.build (λ b. HaveSharedKeys b.specs told.1)) }
-        ensures back { IfOk result (λ told. told.2 ≡ 0) }
+        ensures back { IfOk result (λ told. IsHandedBack self.old told.2) }
         ensures refused { IfErr result (λ fault. Step self.old Event.Switch (Reply.Refused fault) self.new) }
     {
         let (number, verdicts) = self.core.switch_in()?;
-        let missing = end_build(self.alloc, &mut self.core, self.leases.take());
-        Ok((number, verdicts, missing))
+        let back = end_build(self.alloc, &mut self.core, self.leases.take());
+        Ok((number, verdicts, back))
     }
 
-    /// Gives the build up, with its spools, and answers how many of their pages are missing.
-    pub fn abandon(&mut self) -> Result<usize, Fault>
+    /// Gives the build up, with its spools, and hands their pool back.
+    pub fn abandon(&mut self) -> Result<HandedBack, Fault>
         ensures abandoned { OnOk result (EndsBuild Event.Abandon Reply.Abandoned self.old self.new) }
-        ensures back { IfOk result (λ missing. missing ≡ 0) }
+        ensures back { IfOk result (IsHandedBack self.old) }
         ensures refused { IfErr result (λ fault. Step self.old Event.Abandon (Reply.Refused fault) self.new) }
     {
         self.core.abandon()?;
@@ -182,30 +184,36 @@ impl<T: TableRings> LeasedCore<T> {
     }
 }
 
-/// Takes the spools out of the core and gives them up, and answers how many of their pages are missing.
+/// Takes the spools out of the core and gives them up, and hands their pool back.
 fn end_build<T: TableRings>(
     alloc: Global,
     core: &mut Core<SpoolOfKind, T>,
     leases: Option<Leases>,
-) -> usize
+) -> HandedBack
     requires { AreLeased leases core.old.spools.stakes }
     ensures core { core.new ≡ opening core.old.live no_spools }
-    ensures pages { result ≡ 0 }
+    ensures pages { IsBackOf leases result }
 {
     let spools = core.exchange_spools(Vec::new(alloc));
     reclaim(leases, spools)
 }
 
-/// Gives spools up, and answers how many of their pages are missing. Where nothing is leased none is.
-fn reclaim(leases: Option<Leases>, spools: Vec<SpoolOfKind>) -> usize
+/// Gives spools up, and hands their pool back. Where nothing is leased there is none.
+fn reclaim(leases: Option<Leases>, spools: Vec<SpoolOfKind>) -> HandedBack
     requires { AreLeased leases (map stake_in spools.items) }
-    ensures { result ≡ 0 }
+    ensures { IsBackOf leases result }
 {
     match leases {
         Some(leases) => {
-            let (_pool, missing) = leases.reclaim(spools);
-            missing
+            let (pool, missing) = leases.reclaim(spools);
+            HandedBack {
+                pool: Some(pool),
+                missing,
+            }
         }
-        None => 0,
+        None => HandedBack {
+            pool: None,
+            missing: 0,
+        },
     }
 }

@@ -1,7 +1,8 @@
 ghost use Rattle.std.specs.Prelude.{◌≡◌, ◌≤◌, ◌<◌, ◌^◌, All, map, replicate, IfOk, IfErr};
 ghost use Rattle.run_spool.specs.Choices.{kinds_from};
+ghost use Rattle.spool_ledger.specs.Pools.{with_back};
 ghost use Rattle.prefix_spool.specs.Kinds.{kind_of};
-ghost use Rattle.leased_core.specs.Leasing.{AreOf, new_spools, spools_of_kinds, stake_in};
+ghost use Rattle.leased_core.specs.Leasing.{AreOf, new_spools, pool_of, spools_of_kinds, stake_in};
 
 use keybytes::Fault;
 use prefix_spool::{SpoolOfKind, spools_over};
@@ -40,12 +41,13 @@ impl Leases {
         requires spools { spools ≤ 128 }
         requires quota { quota ≤ 1024 }
         ensures leased { IfOk result (λ made. AreOf made.0 (map stake_in made.1.items)) }
-        ensures fresh { IfOk result (λ made. spools_of_kinds made.1.items ≡ new_spools spools quota) }
+        ensures fresh { IfOk result (λ made. spools_of_kinds made.1.items ≡ new_spools choice spools quota) }
         ensures kinds { IfOk result (λ made. map kind_of made.1.items ≡ kinds_from choice 0 spools) }
+        ensures all_out { IfOk result (λ made. made.0.pool.free ≡ 0) }
         ensures memory { IfErr result (λ fault. fault ≡ Fault.Memory) }
     {
         let quotas = quotas(alloc, spools, quota as u32)?;
-        let mut pool = Pool::new(alloc, 0, (spools * quota) as u32)?;
+        let mut pool = Pool::new(alloc, pool_of(choice), (spools * quota) as u32)?;
         let accounts = pool.split(alloc, quotas.as_slice())?;
         let leases = Leases {
             pool,
@@ -54,10 +56,10 @@ impl Leases {
         Ok((leases, spools_over(alloc, choice, accounts)?))
     }
 
-    /// Gives the spools up, and hands the pool back, with how many of its pages are missing. It takes no memory.
+    /// Gives the spools up, and hands the pool back with the pages that were out, beside how many of these are missing. It takes no memory.
     pub fn reclaim(self, spools: Vec<SpoolOfKind>) -> (Pool, usize)
         requires { AreOf self (map stake_in spools.items) }
-        ensures pool { result.0.out ≡ 0 }
+        ensures pool { result.0 ≡ with_back self.pool self.pool.out }
         ensures missing { result.1 ≡ 0 }
     {
         let Leases {
@@ -71,6 +73,17 @@ impl Leases {
             Err(_) => unreachable!(),
         };
         (pool, missing)
+    }
+}
+
+/// The number of the pool of a build's pages. A core doesn't show of what kinds its spools are, but the pool of each: so that tells them.
+fn pool_of(choice: SpoolChoice) -> u64
+    ensures { result ≡ pool_of choice }
+{
+    match choice {
+        SpoolChoice::Plain => 0,
+        SpoolChoice::Prefix => 1,
+        SpoolChoice::Mixed => 2,
     }
 }
 

@@ -5,10 +5,12 @@
 //! does, is told by the core's own words; what the spools have to do with it, by `specs/Leasing.antt`. A [`UnnamedLeased`] is one whose name was taken off.
 #![tactic(auto)]
 
+mod handed_back;
 mod leased;
 mod leases;
 mod unnamed_leased;
 
+pub use handed_back::HandedBack;
 pub use leased::LeasedCore;
 pub use leases::Leases;
 pub use unnamed_leased::UnnamedLeased;

@@ -122,7 +122,7 @@ fn run_table<T: TableRings>(
     let mut leased = LeasedCore::new(alloc, live, ends);
     let mut session = Session::new(alloc);
     let seen = run_all(&mut session, &mut leased, commands, story);
-    let _missing = leased.close();
+    let _handed_back = leased.close();
     seen?;
     Ok(session.status())
 }

@@ -33,7 +33,7 @@ pub record IsPlanOf (workers : ℕ) (schema : List Kind) (choice : SpoolChoice) 
   pub workers_are : planned.plan.workers ≡ workers
   pub dealing : planned.plan.dealing ≡ build.dealing
   pub leased : IsLeased planned
-  pub spools : spools_of_kinds planned.spools.items ≡ new_spools (workers * vec_len build.specs) build.quota
+  pub spools : spools_of_kinds planned.spools.items ≡ new_spools choice (workers * vec_len build.specs) build.quota
   pub kinds : map kind_of planned.spools.items ≡ kinds_from choice 0 (workers * vec_len build.specs)
 
 -- the build is planned, or refused; one that is out of its limits is refused for that

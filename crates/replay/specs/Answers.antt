@@ -20,6 +20,7 @@ use Rattle.build_events.specs.declared.event.Event.TheVariants as event
 use Rattle.build_events.specs.declared.plan.Plan.{Plan}
 use Rattle.build_events.specs.declared.reply.Reply.{Reply}
 use Rattle.build_events.specs.declared.reply.Reply.TheVariants as reply
+use Rattle.run_spool.specs.declared.choice.SpoolChoice.{SpoolChoice}
 use Rattle.script.specs.declared.command.Command.{Command}
 use Rattle.script.specs.declared.command.Command.TheVariants.{Row, Begin, Insert, Update, Delete, Undo, Commit, Get, Start as StartCommand, Spools, Scan, Digest}
 use Rattle.script.specs.declared.command.Command.TheVariants.{Seal, Load, Feed, Apply, Fence, Switch, Abandon, Side, Pairs, Rest}
@@ -75,10 +76,6 @@ OnTxn (Some txn) GoesOn old given new = GoesOn txn old given new
 abbrev pub Happens : Event → CoreState → Answer → CoreState → Type 0
 Happens asked old given new = (told : Reply) × Step old asked told new × (given ≡ answer_to told)
 
--- a transaction begins, or memory is wanting for its label
-abbrev pub BeginsTxn : CoreState → Answer → CoreState → Type 0
-BeginsTxn old given new = Happens event.Begin old given new ⊎ Refuses Memory old given new
-
 -- a transaction writes the row at the RID and commits
 abbrev pub PutsRow : List Cell → ℕ → CoreState → Rid → CoreState → Type 0
 PutsRow cells txn old rid new =
@@ -101,6 +98,13 @@ TakesBack (suc more) old txn new =
     (number : ℕ) × (left : ℕ) × (mid : CoreState)
     × Step old (event.Undo txn) (reply.Undone number left) mid × TakesBack more mid txn new
 
+-- a transaction begins; or it has begun, there is no memory for its label, and it is taken back
+abbrev pub BeginsTxn : CoreState → Answer → CoreState → Type 0
+BeginsTxn old given new =
+    Happens event.Begin old given new
+    ⊎ ((txn : ℕ) × (begun : CoreState) × (more : ℕ)
+    × (given ≡ answer.Refused Memory) × Step old event.Begin (reply.Begun txn) begun × TakesBack more begun txn new)
+
 -- a transaction of its own begins and puts the row in, or takes back what it wrote; or none begins
 abbrev pub AddsRow : List Cell → CoreState → Answer → CoreState → Type 0
 AddsRow cells old given new =
@@ -117,20 +121,20 @@ GivesRow rid old given new =
     ((row : List Cell) × (given ≡ answer.Cells row) × (live_at old.live.heap.log rid ≡ Some row) × (new ≡ with_heap old (after_visit old.live.heap)))
     ⊎ ((fault : Fault) × RefusedFor (row_missing (live_at old.live.heap.log rid)) fault × Refuses fault old given new)
 
--- a build starts over new spools; or that is refused, and nothing changes
-abbrev pub StartsByPlan : ℕ → Plan → CoreState → Answer → CoreState → Type 0
-StartsByPlan quota plan old given new =
-    ((pages : ℕ) × (given ≡ answer.Number pages) × StartsOver quota plan old (reply.Started pages) new)
-    ⊎ ((fault : Fault) × FailsToStart quota plan old fault × Refuses fault old given new)
+-- a build starts over new spools of the kinds that are chosen; or that is refused, and nothing changes
+abbrev pub StartsByPlan : SpoolChoice → ℕ → Plan → CoreState → Answer → CoreState → Type 0
+StartsByPlan chosen quota plan old given new =
+    ((pages : ℕ) × (given ≡ answer.Number pages) × StartsOver chosen quota plan old (reply.Started pages) new)
+    ⊎ ((fault : Fault) × FailsToStart chosen quota plan old fault × Refuses fault old given new)
 
 -- a build starts by the plan that is asked for, or a key specification is refused; want of memory aside
-abbrev pub StartsBuild : Start → CoreState → Answer → CoreState → Type 0
-StartsBuild start old given new =
-    ((plan : Plan) × IsPlanOf old.live.heap.schema start plan × StartsByPlan start.quota plan old given new)
+abbrev pub StartsBuild : SpoolChoice → Start → CoreState → Answer → CoreState → Type 0
+StartsBuild chosen start old given new =
+    ((plan : Plan) × IsPlanOf old.live.heap.schema start plan × StartsByPlan chosen start.quota plan old given new)
     ⊎ ((fault : Fault) × (fault ≢ Memory → specs_refusal old.live.heap.schema start.specs.items ≡ Some fault) × Refuses fault old given new)
 
 -- a switch decides: the build has ended, and no page of its spools is missing; of indexes that it refused lines tell, unless there was no memory for
--- them; or there is no memory to go on with it, or it is refused
+-- them; or it is refused
 abbrev pub Decides : CoreState → Answer → CoreState → Type 0
 Decides old given new =
     ((number : ℕ) × (verdicts : List Outcome)
@@ -138,7 +142,6 @@ Decides old given new =
     ⊎ ((number : ℕ) × (verdicts : List Outcome) × (lines : Vec SharedLine Global)
     × (given ≡ answer.SomeRefused number verdicts lines 0) × (OnBuild old.live.build (λ b. ListsShared 0 b.specs verdicts lines.items) ⊎ (lines.items ≡ []))
     × EndsBuild event.Switch (reply.Switched number verdicts) old new)
-    ⊎ Refuses Memory old given new
     ⊎ ((fault : Fault) × (given ≡ answer.Refused fault) × Step old event.Switch (reply.Refused fault) new)
 
 -- the build is given up, and no page of its spools is missing; or that is refused
@@ -147,29 +150,29 @@ GivesUp old given new =
     ((given ≡ answer.Abandoned 0) × EndsBuild event.Abandon reply.Abandoned old new)
     ⊎ ((fault : Fault) × (given ≡ answer.Refused fault) × Step old event.Abandon (reply.Refused fault) new)
 
--- the command is carried out, with labels that name these transactions
-abbrev pub CarriesOut : Labels → Command → CoreState → Answer → CoreState → Type 0
-CarriesOut labels (Row cells) old given new = Unless (row_refusal cells.items) (AddsRow cells.items) old given new
-CarriesOut labels (Begin label) old given new = BeginsTxn old given new
-CarriesOut labels (Insert label cells) old given new =
+-- the command is carried out, with labels that name these transactions, and spools of the kinds that are chosen
+abbrev pub CarriesOut : Labels → SpoolChoice → Command → CoreState → Answer → CoreState → Type 0
+CarriesOut labels chosen (Row cells) old given new = Unless (row_refusal cells.items) (AddsRow cells.items) old given new
+CarriesOut labels chosen (Begin label) old given new = BeginsTxn old given new
+CarriesOut labels chosen (Insert label cells) old given new =
     Unless (row_refusal cells.items) (OnTxn (named labels label) (λ txn. Happens (event.Insert txn cells.items))) old given new
-CarriesOut labels (Update label rid cells) old given new =
+CarriesOut labels chosen (Update label rid cells) old given new =
     Unless (row_refusal cells.items) (OnTxn (named labels label) (λ txn. Happens (event.Update txn rid cells.items))) old given new
-CarriesOut labels (Delete label rid) old given new = OnTxn (named labels label) (λ txn. Happens (event.Delete txn rid)) old given new
-CarriesOut labels (Undo label) old given new = OnTxn (named labels label) (λ txn. Happens (event.Undo txn)) old given new
-CarriesOut labels (Commit label) old given new = OnTxn (named labels label) (λ txn. Happens (event.Commit txn)) old given new
-CarriesOut labels (Get rid) old given new = GivesRow rid old given new
-CarriesOut labels (StartCommand start) old given new = Unless (planning_refusal old start) (StartsBuild start) old given new
-CarriesOut labels (Spools choice) old given new = (given ≡ answer.Done) × (new ≡ old)
-CarriesOut labels (Scan range worker) old given new = Happens (event.Scan range worker) old given new
-CarriesOut labels (Digest worker) old given new = Happens (event.Digest worker) old given new
-CarriesOut labels (Seal worker) old given new = Happens (event.Seal worker) old given new
-CarriesOut labels (Load index) old given new = Happens (event.Load index) old given new
-CarriesOut labels (Feed index most) old given new = Happens (event.Feed index most) old given new
-CarriesOut labels (Apply index most) old given new = Happens (event.Apply index most) old given new
-CarriesOut labels Fence old given new = Happens event.Fence old given new
-CarriesOut labels Switch old given new = Decides old given new
-CarriesOut labels Abandon old given new = GivesUp old given new
-CarriesOut labels (Side index) old given new = ListsSide index old given new
-CarriesOut labels (Pairs number) old given new = ListsIndex number old given new
-CarriesOut labels (Rest spec) old given new = ListsRest spec old given new
+CarriesOut labels chosen (Delete label rid) old given new = OnTxn (named labels label) (λ txn. Happens (event.Delete txn rid)) old given new
+CarriesOut labels chosen (Undo label) old given new = OnTxn (named labels label) (λ txn. Happens (event.Undo txn)) old given new
+CarriesOut labels chosen (Commit label) old given new = OnTxn (named labels label) (λ txn. Happens (event.Commit txn)) old given new
+CarriesOut labels chosen (Get rid) old given new = GivesRow rid old given new
+CarriesOut labels chosen (StartCommand start) old given new = Unless (planning_refusal old start) (StartsBuild chosen start) old given new
+CarriesOut labels chosen (Spools choice) old given new = (given ≡ answer.Done) × (new ≡ old)
+CarriesOut labels chosen (Scan range worker) old given new = Happens (event.Scan range worker) old given new
+CarriesOut labels chosen (Digest worker) old given new = Happens (event.Digest worker) old given new
+CarriesOut labels chosen (Seal worker) old given new = Happens (event.Seal worker) old given new
+CarriesOut labels chosen (Load index) old given new = Happens (event.Load index) old given new
+CarriesOut labels chosen (Feed index most) old given new = Happens (event.Feed index most) old given new
+CarriesOut labels chosen (Apply index most) old given new = Happens (event.Apply index most) old given new
+CarriesOut labels chosen Fence old given new = Happens event.Fence old given new
+CarriesOut labels chosen Switch old given new = Decides old given new
+CarriesOut labels chosen Abandon old given new = GivesUp old given new
+CarriesOut labels chosen (Side index) old given new = ListsSide index old given new
+CarriesOut labels chosen (Pairs number) old given new = ListsIndex number old given new
+CarriesOut labels chosen (Rest spec) old given new = ListsRest spec old given new

@@ -124,7 +124,7 @@ status_after status (answer.Refused fault) = status
 
 -- the command is run and answered
 pub record Runs (old : ScriptState) (command : Command) (given : Answer) (new : ScriptState) : Type 0 where
-  pub core : CarriesOut old.labels command old.core given new.core
+  pub core : CarriesOut old.labels old.choice command old.core given new.core
   pub labels : NotesCommand old.labels command given new.labels
   pub choice : new.choice ≡ choice_after old.choice command
   pub status : new.status ≡ status_after old.status given

@@ -1,4 +1,5 @@
-ghost use Rattle.std.specs.Prelude.{◌≡◌, ◌+◌, ◌^◌, ◌<◌, ◌⊎◌, ◌++◌, [], List, length, IfOk, IfErr, IfSome, OnOk};
+ghost use Rattle.std.specs.Prelude.{◌≡◌, ◌+◌, ◌^◌, ◌<◌, ◌⊎◌, ◌++◌, [], List, length, IfOk, IfErr, IfSome, IsSomeAnd, OnOk};
+ghost use Rattle.build_events.specs.BuildSteps.{OnBuild};
 ghost use Rattle.build_events.specs.Verdicts.{HaveSharedKeys};
 ghost use Rattle.replay.specs.declared.shared_line.SharedLine.{SharedLine};
 ghost use Rattle.std.specs.List.{AllZip};
@@ -14,7 +15,7 @@ use crate::shared_line::SharedLine;
 use btree::Tree;
 use builder_core::{Core, Entry, Pair, TableRings};
 use chunk_list::QueueItems;
-use heap_log::Outcome;
+use heap_log::{Outcome, Verdicts};
 use keybytes::{Fault, KeySpec, copied_specs};
 use prefix_spool::SpoolOfKind;
 use std::alloc::Global;
@@ -120,16 +121,28 @@ fn add_shared(
     add_shared(lines, number + 1, specs, verdicts)
 }
 
-/// Copies of what makes the keys of the indexes that are being built.
+/// Copies of what makes the keys of the indexes that are being built, if a build runs and there is memory for them.
 pub fn build_specs<T: TableRings>(
     alloc: Global,
     core: &Core<SpoolOfKind, T>,
-) -> Result<Vec<KeySpec>, Fault>
-    ensures ok { IfOk result (λ specs. IfSome core.now.live.build (λ b. specs.items ≡ b.specs)) }
-    ensures memory { IfErr result (λ fault. fault ≡ Fault.Memory) }
+) -> Option<Vec<KeySpec>>
+    ensures { IfSome result (λ specs. OnBuild core.now.live.build (λ b. specs.items ≡ b.specs)) }
 {
-    match core.live().specs() {
-        Some(specs) => copied_specs(alloc, specs),
-        None => Ok(Vec::new(alloc)),
+    let specs = core.live().specs()?;
+    copied_specs(alloc, specs).ok()
+}
+
+/// Lines that tell of the indexes that the verdicts refuse, of a build with these specifications; none where these were not copied.
+pub fn build_lines(
+    alloc: Global,
+    specs: Option<Vec<KeySpec>>,
+    verdicts: &Verdicts,
+) -> Vec<SharedLine>
+    requires { IfSome specs (λ specs. HaveSharedKeys specs.items verdicts.now) }
+    ensures { IsSomeAnd specs (λ specs. ListsShared 0 specs.items verdicts.now result.items) ⊎ (result.items ≡ []) }
+{
+    match specs {
+        Some(specs) => shared_lines(alloc, specs.as_slice(), verdicts.as_slice()),
+        None => Vec::new(alloc),
     }
 }

@@ -96,7 +96,7 @@ fn answer_table<T: TableRings, W: Write + Drop>(
     let mut leased = LeasedCore::new(alloc, live, ends);
     let mut session = Session::new(alloc);
     let answered = answer_all(&mut session, &mut leased, commands, output);
-    let _missing = leased.close();
+    let _handed_back = leased.close();
     answered?;
     Ok(session.status())
 }

@@ -14,7 +14,7 @@ ghost use Rattle.replay.specs.Plans.{specs_refusal};
 use crate::answer::Answer;
 use crate::entry_line::EntryLine;
 use crate::labels::Labels;
-use crate::listing::{build_specs, entry_lines, pair_lines, shared_lines, tree_lines};
+use crate::listing::{build_lines, build_specs, entry_lines, pair_lines, tree_lines};
 use crate::plan::{is_in_limits, key_spec, key_specs};
 use crate::status::Status;
 use crate::txn::{begin, put, take_back};
@@ -119,7 +119,8 @@ impl Session {
         }
     }
 
-    /// Begins a transaction that the label names; where that is refused, it names none.
+    /// Begins a transaction that the label names; where that is refused, it names none. Only the begin tells whether it is refused for another reason than
+    /// want of memory for the label: so where that is wanting the transaction is taken back.
     fn begin_named<T: TableRings>(
         &mut self,
         leased: &mut LeasedCore<T>,
@@ -127,10 +128,18 @@ impl Session {
     ) -> Result<Answer, Fault>
         ensures { Answers (state_of leased.old self.old) (Command.Begin label.now) result (state_of leased.new self.new) }
     {
-        self.labels.forget(label)?;
-        let txn = begin(leased)?;
-        self.labels.name(label, txn);
-        Ok(Answer::Number { number: txn })
+        let noted = self.labels.forget(label);
+        let begun = begin(leased)?;
+        match noted {
+            Ok(()) => {
+                self.labels.name(label, begun);
+                Ok(Answer::Number { number: begun })
+            }
+            Err(fault) => {
+                take_back(leased, begun);
+                Err(fault)
+            }
+        }
     }
 
     fn insert_named<T: TableRings>(
@@ -254,8 +263,9 @@ impl Session {
     fn switch<T: TableRings>(&mut self, leased: &mut LeasedCore<T>) -> Result<Answer, Fault>
         ensures { Answers (state_of leased.old self.old) Command.Switch result (state_of leased.new self.new) }
     {
-        let specs = build_specs(self.alloc, leased.core())?;
-        let (number, verdicts, pages) = leased.switch()?;
+        let specs = build_specs(self.alloc, leased.core());
+        let (number, verdicts, back) = leased.switch()?;
+        let pages = back.missing;
         if !has_refused(&verdicts) {
             return Ok(Answer::Switched {
                 number,
@@ -264,7 +274,7 @@ impl Session {
             });
         }
         self.status = Status::IndexRefused;
-        let shared = shared_lines(self.alloc, specs.as_slice(), verdicts.as_slice());
+        let shared = build_lines(self.alloc, specs, &verdicts);
         Ok(Answer::SomeRefused {
             number,
             verdicts,
@@ -276,8 +286,10 @@ impl Session {
     fn abandon<T: TableRings>(&mut self, leased: &mut LeasedCore<T>) -> Result<Answer, Fault>
         ensures { Answers (state_of leased.old self.old) Command.Abandon result (state_of leased.new self.new) }
     {
-        let pages = leased.abandon()?;
-        Ok(Answer::Abandoned { pages })
+        let back = leased.abandon()?;
+        Ok(Answer::Abandoned {
+            pages: back.missing,
+        })
     }
 
     fn side<T: TableRings>(

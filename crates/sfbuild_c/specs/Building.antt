@@ -8,6 +8,7 @@ use Rattle.build_events.specs.declared.event.Event.TheVariants.{Abandon}
 use Rattle.build_events.specs.declared.plan.Plan.{Plan}
 use Rattle.build_events.specs.Steps.{Step}
 use Rattle.build_events.specs.declared.reply.Reply.TheVariants.{Abandoned, Refused, Started}
+use Rattle.run_spool.specs.declared.choice.SpoolChoice.TheVariants.{Prefix}
 use Rattle.leased_core.specs.Leasing.{EndsBuild, StartsOver}
 use Rattle.kept_table.specs.Decisions.{Decides, FailsToDecide, verdicts_in}
 use Rattle.kept_table.specs.KeptTables.{KeptValue}
@@ -21,12 +22,12 @@ pub record IsAskedFor (kinds : List Kind) (bytes : List ℕ) (workers ranges : �
   pub workers_are : plan.workers ≡ workers
   pub dealing : plan.dealing ≡ Even ranges
 
--- the build that is asked for starts, and reads so many pages
+-- the build that is asked for starts, with prefix spools, and reads so many pages
 abbrev pub StartsBuild : List ℕ → ℕ → ℕ → ℕ → ℕ → KeptValue → KeptValue → Type 0
 StartsBuild bytes workers ranges quota pages before after =
     (after.decided ≡ before.decided) × (after.waited ≡ None)
     × ((plan : Plan) × IsAskedFor before.core.live.heap.schema bytes workers ranges plan
-    × (start_limits_refusal quota plan before.core ≡ None) × StartsOver quota plan before.core (Started pages) after.core)
+    × (start_limits_refusal quota plan before.core ≡ None) × StartsOver Prefix quota plan before.core (Started pages) after.core)
 
 -- it doesn't: a build runs; or the bytes aren't those of indexes, or there is no memory for these; or the start is refused
 abbrev pub RefusesBuild : List ℕ → ℕ → ℕ → ℕ → Fault → KeptValue → KeptValue → Type 0
@@ -35,7 +36,7 @@ RefusesBuild bytes workers ranges quota fault before after =
     × (((fault ≡ BuildRunning) × (is_some before.core.live.build ≡ true))
     ⊎ ((before.core.live.build ≡ None)
     × (RefusesIndexes before.core.live.heap.schema bytes fault
-    ⊎ ((plan : Plan) × IsAskedFor before.core.live.heap.schema bytes workers ranges plan × RefusesStart quota plan before.core fault))))
+    ⊎ ((plan : Plan) × IsAskedFor before.core.live.heap.schema bytes workers ranges plan × RefusesStart Prefix quota plan before.core fault))))
 
 -- a piece of a build, which applies so many entries of each index more than were written since the piece before: the last, which is the switch, or one
 -- before it

@@ -42,7 +42,7 @@ pub extern "C" fn sfbuild_close(alloc: Global, session: &mut Session) -> u8
 {
     match session.take(alloc) {
         Some(table) => {
-            let _none_missing = Box::into_inner(table).close();
+            let _handed_back = Box::into_inner(table).close();
             DONE
         }
         None => CLOSED,

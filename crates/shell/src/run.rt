@@ -113,7 +113,7 @@ fn use_table<T: TableRings, R: Read + Drop, W: Write + Drop, P: Write + Drop>(
     let mut leased = LeasedCore::new(alloc, live, ends);
     let mut session = Session::new(alloc);
     let answered = answer_all(alloc, &mut session, &mut leased, &mut counts, input, output);
-    let _missing = leased.close();
+    let _handed_back = leased.close();
     answered?;
     Ok(session.status())
 }

@@ -9,7 +9,7 @@ use Rattle.kept_table.proofs.kept.Kept.start.Goals as goal
 
 pub returns-clause-started : goal.returns-clause-started
 returns-clause-started c =
-    on_table (λ (s : CoreState). IfOk c.started-table.result.1 (λ pages. StartsOver c.args.quota c.args.plan s (Started pages) c.started-table.result.0.core)) c.args.self.now c.self.inside.table c.self.inside.decided c.self.inside.waited
+    on_table (λ (s : CoreState). IfOk c.started-table.result.1 (λ pages. StartsOver c.args.choice c.args.quota c.args.plan s (Started pages) c.started-table.result.0.core)) c.args.self.now c.self.inside.table c.self.inside.decided c.self.inside.waited
     c.taken.result c.self.view_is c.taken.ensures c.started-table.ensures.started
 
 pub returns-clause-accepted : goal.returns-clause-accepted
@@ -19,7 +19,7 @@ returns-clause-accepted c =
 
 pub returns-clause-refused : goal.returns-clause-refused
 returns-clause-refused c =
-    on_table (λ (s : CoreState). IfErr c.started-table.result.1 (RefusesStart c.args.quota c.args.plan s)) c.args.self.now c.self.inside.table c.self.inside.decided c.self.inside.waited
+    on_table (λ (s : CoreState). IfErr c.started-table.result.1 (RefusesStart c.args.choice c.args.quota c.args.plan s)) c.args.self.now c.self.inside.table c.self.inside.decided c.self.inside.waited
     c.taken.result c.self.view_is c.taken.ensures c.started-table.ensures.refused
 
 pub returns-clause-unchanged : goal.returns-clause-unchanged

@@ -27,8 +27,8 @@ plan_of g c = record { specs = c.in_ok-key_specs.field-0; workers = c.args.start
 -- nothing is against the command before its plan is made
 by_plan :
     (g : given.Over) (c : After-start g) (answer : Answer)
-    → StartsByPlan c.args.start.quota (plan_of g c) c.args.leased.now answer c.start.new.self
-    → Unless (planning_refusal c.args.leased.now c.args.start) (StartsBuild c.args.start) c.args.leased.now answer c.start.new.self
+    → StartsByPlan c.args.self.now.choice c.args.start.quota (plan_of g c) c.args.leased.now answer c.start.new.self
+    → Unless (planning_refusal c.args.leased.now c.args.start) (StartsBuild c.args.self.now.choice c.args.start) c.args.leased.now answer c.start.new.self
 by_plan g c answer starts =
     let core = c.args.leased.now in
     let start = c.args.start in
@@ -36,7 +36,7 @@ by_plan g c answer starts =
     sym (ap (λ (s : CoreState). is_some s.live.build) c.core.ensures) ∙ sym c.is_building.ensures ∙ c.if-is_building.false in
     let in_limits : is_in_limits start.workers (vec_len start.specs) start.quota ≡ true =
     ap (λ indexes. is_in_limits start.workers indexes start.quota) (sym c.len.ensures) ∙ sym c.is_in_limits.ensures ∙ c.if-not-is_in_limits.false in
-    subst (λ (cause : Option Fault). Unless cause (StartsBuild start) core answer c.start.new.self) (sym (no_refusal _ _ no_build in_limits)) (inl (
+    subst (λ (cause : Option Fault). Unless cause (StartsBuild c.args.self.now.choice start) core answer c.start.new.self) (sym (no_refusal _ _ no_build in_limits)) (inl (
       plan_of g c,
       record {
         specs = c.in_ok-key_specs.ensures.ok ∙ ap (λ (s : CoreState). map (key_spec_of s.live.heap.schema) start.specs.items) c.core-2.ensures;

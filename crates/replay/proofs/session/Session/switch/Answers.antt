@@ -1,27 +1,29 @@
-use Rattle.std.proofs.Common.{◌≡◌, ◌⊎◌, ℕ, [], ap, refl, subst, inl, inr}
-use Rattle.std.specs.Prelude.{IfSome}
+use Rattle.std.proofs.Common.{◌≡◌, ◌⊎◌, ℕ, [], ap, refl, subst, inr, inl}
 use Rattle.build_events.specs.CoreState.{CoreState}
 use Rattle.build_events.specs.BuildSteps.{OnBuild}
-use Rattle.build_events.specs.Verdicts.{HaveSharedKeys}
-use Rattle.replay.proofs.SharedLines.{lists_or_none}
+use Rattle.replay.proofs.SharedLines.{AreCopies, copies_make_keys, lines_of_build}
 use Rattle.replay.specs.Listings.{ListsShared}
 use Rattle.replay.specs.declared.answer.Answer.TheVariants as answer
 use Rattle.replay.proofs.session.Session.switch.Goals as goal
 
+pub build_lines-shared-requires : goal.build_lines-shared-requires
+build_lines-shared-requires g c =
+    let copies = c.build_specs-specs.result in
+    copies_make_keys c.args.leased.now.live.build copies c.in_ok-number.verdicts
+    (subst (λ (s : CoreState). AreCopies s.live.build copies) c.core.ensures c.build_specs-specs.ensures) c.in_ok-number.ensures.keys
+
 pub returns : goal.returns
 returns g c =
     let build = c.args.leased.now.live.build in
-    let specs = c.in_ok-specs.specs.items in
+    let copies = c.build_specs-specs.result in
     let number = c.in_ok-number.number in
     let verdicts = c.in_ok-number.verdicts in
-    let lines = c.shared_lines-shared.result in
-    let copied : IfSome build (λ b. specs ≡ b.specs) = subst (λ (s : CoreState). IfSome s.live.build (λ b. specs ≡ b.specs)) c.core.ensures c.in_ok-specs.ensures.ok in
+    let lines = c.build_lines-shared.result in
+    let copied : AreCopies build copies = subst (λ (s : CoreState). AreCopies s.live.build copies) c.core.ensures c.build_specs-specs.ensures in
     let told : OnBuild build (λ b. ListsShared 0 b.specs verdicts lines.items) ⊎ (lines.items ≡ []) =
-    lists_or_none build (λ b. HaveSharedKeys b.specs verdicts) specs verdicts lines.items copied c.in_ok-number.ensures.keys
-    (subst (λ vs. ListsShared 0 specs vs lines.items ⊎ (lines.items ≡ [])) c.as_slice-2.ensures
-    (subst (λ ss. ListsShared 0 ss c.as_slice-2.result.now lines.items ⊎ (lines.items ≡ [])) c.as_slice.ensures.value c.shared_lines-shared.ensures.lists)) in
+    lines_of_build build copies verdicts lines.items copied c.build_lines-shared.ensures in
     record {
-      core = inr (inl (number, verdicts, lines, ap (λ (pages : ℕ). answer.SomeRefused number verdicts lines pages) c.in_ok-number.ensures.back, told, c.in_ok-number.ensures.decided));
+      core = inr (inl (number, verdicts, lines, ap (λ (pages : ℕ). answer.SomeRefused number verdicts lines pages) c.in_ok-number.ensures.back.missing, told, c.in_ok-number.ensures.decided));
       labels = refl;
       choice = refl;
       status = refl;
