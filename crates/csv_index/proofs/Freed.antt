@@ -1,5 +1,5 @@
 -- Where an insert goes no row stands.
-use Rattle.std.proofs.Common.{◌≡◌, ℕ, zero, suc, ◌<◌, ◌≤◌, true, List, length, get_or, Option, Some, None, inl, inr, refl, sym, ap, ◌∙◌, subst, arith}
+use Rattle.std.proofs.Common.{◌≡◌, ℕ, true, length, get_or, Option, Some, None, inl, inr, refl, sym, ap, ◌∙◌, subst, arith}
 use Rattle.std.specs.Prelude.{nat_lt, position}
 use Rattle.std.specs.Option.{option_map}
 use Rattle.std.proofs.lemmas.Bool.{cases_lt}
@@ -13,7 +13,7 @@ use Rattle.slotted_page.specs.Slot.{Slot, free, held, row, is_free}
 use Rattle.heap_table.specs.HeapState.{HeapState, insert_place, page_of, place_on, table_pages, takes}
 use Rattle.heap_table.specs.Pages.{pages_written, rid_at, slot_of, slots_written}
 use Rattle.heap_table.proofs.LogRows.{slot_free, slot_past, slots_past}
-use Rattle.heap_table.proofs.PageLists.{get_or_page_by, length_page_by}
+use Rattle.heap_table.proofs.PageLists.{get_or_page_by}
 
 is_free_free : (x : Slot) → is_free x ≡ true → x ≡ free
 is_free_free free e = refl

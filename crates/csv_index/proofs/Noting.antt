@@ -1,5 +1,6 @@
 -- The lines that are noted of rows which stand.
-use Rattle.std.proofs.Common.{◌≡◌, ◌≢◌, ℕ, zero, suc, ◌+◌, ◌≤◌, true, false, List, [], ◌∷◌, ◌++◌, length, Some, None, inl, inr, sym, ap, ◌∙◌, arith}
+use Rattle.std.proofs.Common.{◌≡◌, ◌≢◌, ℕ, zero, suc, ◌+◌, ◌≤◌, add-one, Bool, true, false, List, [], ◌∷◌, ◌++◌, length, Some, None, inl, inr, sym, ap, ◌∙◌, arith}
+use Rattle.std.specs.Prelude.{if◌then◌else◌}
 use Rattle.std.proofs.lemmas.Bool.{cases_Bool}
 use Rattle.std.proofs.lemmas.Option.{none-some}
 use Rattle.heap_log.specs.Standing.{live_at}
@@ -18,6 +19,16 @@ few_lines text zero = omega arith
 few_lines text (suc place) =
     let rest = few_lines text place in
     elim (cases_Bool (ends_line text place)) [ inl ends ↦ rw ends (omega (arith, rest)) | inr goes_on ↦ rw goes_on (omega (arith, rest)) ]
+
+-- one place on
+pub line_ends : (text : List ℕ) (place : ℕ) → ends_line text place ≡ true → line_at text (place + 1) ≡ line_at text place + 1
+line_ends text place ends =
+    ap (λ (next : ℕ). line_at text next) (add-one place) ∙ ap (λ (is : Bool). lines_before text place + (if is then 1 else 0) + 1) ends
+
+pub line_goes_on : (text : List ℕ) (place : ℕ) → ends_line text place ≡ false → line_at text (place + 1) ≡ line_at text place
+line_goes_on text place goes_on =
+    ap (λ (next : ℕ). line_at text next) (add-one place)
+    ∙ (ap (λ (is : Bool). lines_before text place + (if is then 1 else 0) + 1) goes_on ∙ omega arith)
 
 -- a row stands at that place
 abbrev Stands : HeapState → Rid → Type 0

@@ -11,7 +11,6 @@ use Rattle.csv_index.specs.Lines.{AreNoted, line_at}
 use Rattle.csv_index.specs.OpenTxns.{KeepsOpen}
 use Rattle.csv_index.specs.Sizes.{HaveSizes}
 use Rattle.csv_index.specs.declared.table.filling.Filled.{Filled}
-use Rattle.csv_index.specs.declared.table.key_sizes.KeySizes.{KeySizes}
 use Rattle.csv_index.specs.declared.table.source.Source.{Source}
 use Rattle.csv_index.proofs.Noting.{all_stand, empty_before, noted_later, noted_more, noted_still}
 
@@ -52,7 +51,7 @@ kept_on a b c one two = record {
 pub kept_self : (a : List LogRec) → KeepsRows a a
 kept_self a = record { live = λ rid. refl; pages = refl; slots = λ page. refl }
 
-zip_length : {A B : Type 0} (R : A → B → Type 0) (xs : List A) (ys : List B) → AllZip R xs ys → length ys ≡ length xs
+pub zip_length : {A B : Type 0} (R : A → B → Type 0) (xs : List A) (ys : List B) → AllZip R xs ys → length ys ≡ length xs
 zip_length R [] [] all = refl
 zip_length R [] (y ∷ ys) all = absurd all
 zip_length R (x ∷ xs) [] all = absurd all

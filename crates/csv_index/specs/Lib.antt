@@ -7,3 +7,5 @@ pub mod Headers
 pub mod Lines
 pub mod OpenTxns
 pub mod Sizes
+pub mod Runs
+pub mod Printed

@@ -22,8 +22,8 @@ abbrev pub key_size : Cell → ℕ
 key_size cell = length (cell_key cell)
 
 -- the sizes of cells: of all together, and of the longest
-abbrev pub sizes_of : List Cell → KeySizes
-sizes_of cells = record { bytes = counted (sum_by key_size cells); longest = counted (greatest (map key_size cells)) }
+abbrev pub sizes_of_cells : List Cell → KeySizes
+sizes_of_cells cells = record { bytes = counted (sum_by key_size cells); longest = counted (greatest (map key_size cells)) }
 
 -- the cells of a column
 abbrev pub column_cells : List (List Cell) → ℕ → List Cell
@@ -31,7 +31,7 @@ column_cells rows place = map (λ row. slice_index_or row place Null) rows
 
 -- of each of so many columns these are the sizes of its cells
 abbrev pub HaveSizes : ℕ → List (List Cell) → List KeySizes → Type 0
-HaveSizes columns rows sizes = sizes ≡ map (λ place. sizes_of (column_cells rows place)) (range_with_len 0 columns)
+HaveSizes columns rows sizes = sizes ≡ map (λ place. sizes_of_cells (column_cells rows place)) (range_with_len 0 columns)
 
 -- sizes of the cells of some rows become those of one row more
 abbrev pub AddsRow : List Cell → List KeySizes → List KeySizes → Type 0
@@ -66,7 +66,7 @@ pages_of rows sizes = counted (div_ceil (pair_bytes rows sizes) (bytes_of_page s
 
 -- how many parts all pairs are dealt into: one, where so many spools may have room for all, else one for four workers
 abbrev pub parts_of : ℕ → ℕ → ℕ → ℕ
-parts_of pages workers spools = if nat_le (counted (pages * spools)) 65536 then 1 else max (div_ceil workers 4) 1
+parts_of pages workers spools = if nat_le (pages * spools) 65536 then 1 else max (div_ceil workers 4) 1
 
 -- the pages of each of so many spools: those of a part and 8 beside, and 16777216 at most
 abbrev pub quota_of : ℕ → ℕ → ℕ → ℕ

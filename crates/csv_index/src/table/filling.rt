@@ -82,7 +82,7 @@ fn read_all<V: Watch>(
 ) -> Result<(), Failure>
     requires rows { filled.old.rows ≡ 0 }
     requires left_out { filled.old.left_out ≡ 0 }
-    requires sizes { HaveSizes (length reading.entry.columns.now) [] filled.old.sizes.items }
+    requires sizes { HaveSizes (length reading.columns.now) [] filled.old.sizes.items }
     requires closed { NoneIsOpen filled.old.heap.state }
     ensures taken { OnOk result (IsTakenIn reading.entry.columns.now text.now filled.old.heap.state filled.new) }
     ensures skipped { OnOk result (LeavesOutIf reading.entry.skips_bad filled.new) }
@@ -158,7 +158,8 @@ fn begin(heap: &mut Heap) -> Result<u64, Failure>
     ensures rows { OnOk result (KeepsRows heap.old.state.log heap.new.state.log) }
     ensures alone { IfOk result (λ txn. IsAlone txn heap.new.state) }
 {
-    Ok(heap.begin()?)
+    let txn = heap.begin()?;
+    Ok(txn)
 }
 
 /// Ends a transaction, and begins the next.
@@ -257,9 +258,9 @@ fn put(alloc: Global, row: Row, line: u64, txn: u64, filled: &mut Filled) -> Res
 fn add_sizes(sizes: &mut [KeySizes], cells: &[Cell])
     ensures { AddsRow cells.now sizes.old sizes.new }
 {
-    for (place, sizes) in sizes.iter_mut().enumerate() {
+    for (place, of_column) in sizes.iter_mut().enumerate() {
         if let Some(cell) = cells.get(place) {
-            sizes.add(cell);
+            of_column.add(cell);
         }
     }
 }

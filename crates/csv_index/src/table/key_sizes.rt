@@ -1,6 +1,6 @@
 ghost use Rattle.std.specs.Prelude.{◌≡◌, ◌+◌, ◌==◌, List, [], ◌∷◌, ◌++◌, length, count_by};
 ghost use Rattle.keybytes.specs.declared.cell.Cell.{Cell};
-ghost use Rattle.csv_index.specs.Sizes.{counted, key_size, sizes_of};
+ghost use Rattle.csv_index.specs.Sizes.{counted, key_size, sizes_of_cells};
 
 use keybytes::Cell;
 
@@ -21,7 +21,7 @@ impl KeySizes {
 
     /// Another row has that cell.
     pub fn add(&mut self, cell: &Cell)
-        ensures { (cells : List Cell) → self.old ≡ sizes_of cells → self.new ≡ sizes_of (cells ++ cell.now ∷ []) }
+        ensures { (cells : List Cell) → self.old ≡ sizes_of_cells cells → self.new ≡ sizes_of_cells (cells ++ cell.now ∷ []) }
     {
         let size = size_of(cell);
         self.bytes = self.bytes.saturating_add(size as u64);

@@ -45,7 +45,8 @@ impl Lines {
     {
         let page = rid.page as usize;
         add_pages(self.alloc, &mut self.pages, page)?;
-        note_slot(&mut self.pages[page], usize::from(rid.slot), line)
+        note_slot(&mut self.pages[page], usize::from(rid.slot), line)?;
+        Ok(())
     }
 
     /// The line of the row at that place, or 0 where none is noted.

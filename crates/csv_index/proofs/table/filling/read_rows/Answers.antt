@@ -1,4 +1,4 @@
-use Rattle.std.proofs.Common.{◌≡◌, ◌+◌, ◌++◌, ◌∷◌, ◌≤◌, [], List, ℕ, Ok, refl, sym, ap, subst, ◌∙◌, arith, append-nil, append_assoc}
+use Rattle.std.proofs.Common.{◌≡◌, ◌++◌, ◌∷◌, [], List, ℕ, Ok, refl, sym, ap, subst, ◌∙◌, arith, append-nil, append_assoc}
 use Rattle.csv.specs.Records.{fields_of}
 use Rattle.csv_index.specs.Fillings.{AreTaken, OnlyTurns}
 use Rattle.csv_index.specs.Lines.{line_at}
@@ -15,7 +15,7 @@ loop-number-init g c =
         [],
         refl,
         none_taken layout.width layout.sources.items lines.text lines.passed c.args.filled.now.heap.state _ c.in_ok-txn.ensures.rows c.requires.rows
-        c.requires.left_out c.requires.sizes,
+            c.requires.left_out c.requires.sizes,
       );
       counted = omega (arith, c.requires.rows, c.requires.left_out);
       skipped = λ strict. c.requires.left_out;
