@@ -3,7 +3,7 @@ use Rattle.std.specs.Prelude.{◌≡◌, ℕ, List}
 use Rattle.std.specs.String.{string_bytes}
 use Rattle.keybytes.specs.declared.fault.Fault.TheVariants.{Memory}
 use Rattle.csv_index.specs.declared.table.failure.Failure.{Failure}
-use Rattle.csv_index.specs.declared.table.failure.Failure.TheVariants.{CannotRead, CannotPrint, Refused, KeyCell, Row, Table, NotReady}
+use Rattle.csv_index.specs.declared.table.failure.Failure.TheVariants.{CannotRead, CannotPrint, Refused, KeyCell, Row, Table}
 use Rattle.csv_index.specs.declared.table.refusal.Refusal.{Refusal}
 
 -- the failure names that refusal and its text, unless there was no memory to tell it
@@ -14,7 +14,6 @@ NamesRefusal refusal text (CannotRead error) = ⊥
 NamesRefusal refusal text CannotPrint = ⊥
 NamesRefusal refusal text (KeyCell fault key column) = ⊥
 NamesRefusal refusal text (Row line row column) = ⊥
-NamesRefusal refusal text NotReady = ⊥
 
 -- there was no memory
 abbrev pub LacksMemory : Failure → Type 0

@@ -11,6 +11,9 @@ use Rattle.keybytes.specs.declared.rid.Rid.{Rid}
 use Rattle.script.specs.Records.{records_of}
 use Rattle.csv_index.specs.Cells.{IsNoCell, ReadsAs}
 use Rattle.csv_index.specs.Headers.{AreFound}
+use Rattle.csv_index.specs.Lines.{AreNoted, NotesLine}
+use Rattle.csv_index.specs.OpenTxns.{KeepsOpen}
+use Rattle.csv_index.specs.Sizes.{AddsRow, HaveSizes}
 use Rattle.csv_index.specs.declared.table.column.Column.{Column}
 use Rattle.csv_index.specs.declared.table.filling.Filled.{Filled}
 use Rattle.csv_index.specs.declared.table.source.Source.{Source}
@@ -50,48 +53,67 @@ none_count [] = 0
 none_count (None ∷ rows) = none_count rows + 1
 none_count (Some row ∷ rows) = none_count rows
 
--- the row is put where an insert goes, whatever transactions began or ended before; all other rows stay as they are
-pub record IsPutIn (before : HeapState) (row : List Cell) (after : HeapState) : Type 0 where
+-- the row is put at that place, where an insert goes, whatever transactions began or ended before; all other rows stay as they are
+pub record IsPutIn (before : HeapState) (row : List Cell) (place : Rid) (after : HeapState) : Type 0 where
   pub between : HeapState
   pub kept : KeepsRows before.log between.log
-  pub place : Rid
   pub goes : insert_place between (length (row_bytes row)) ≡ Some place
   pub put : SetsRow between.log place (Some row) after.log
 
--- these rows are put in, one after the other
-abbrev pub ArePutIn : HeapState → List (List Cell) → HeapState → Type 0
-ArePutIn before [] after = KeepsRows before.log after.log
-ArePutIn before (row ∷ rows) after = (between : HeapState) × IsPutIn before row between × ArePutIn between rows after
+-- these rows are put in at these places, one after the other
+abbrev pub ArePutIn : HeapState → List (List Cell) → List Rid → HeapState → Type 0
+ArePutIn before [] [] after = KeepsRows before.log after.log
+ArePutIn before [] (place ∷ places) after = ⊥
+ArePutIn before (row ∷ rows) [] after = ⊥
+ArePutIn before (row ∷ rows) (place ∷ places) after =
+    (between : HeapState) × IsPutIn before row place between × ArePutIn between rows places after
 
--- each record became a row or none, and those rows were put into the table, in order
-pub record AreTaken (width : ℕ) (sources : List Source) (records : List (List (List ℕ))) (start : HeapState) (filled : Filled) : Type 0 where
+-- each record became a row or none, and those rows were put into the table, in order, with the lines of places of the text up to one
+pub record AreTaken
+    (width : ℕ) (sources : List Source) (text : List ℕ) (read : ℕ) (records : List (List (List ℕ))) (start : HeapState) (filled : Filled)
+    : Type 0 where
   pub rows : List (Option (List Cell))
+  pub places : List Rid
   pub spelled : AllZip (Becomes width sources) records rows
-  pub put : ArePutIn start (rows_there rows) filled.heap.state
+  pub put : ArePutIn start (rows_there rows) places filled.heap.state
   pub counted : filled.rows ≡ length (rows_there rows)
   pub left_out : filled.left_out ≡ none_count rows
+  pub sized : HaveSizes (length sources) (rows_there rows) filled.sizes.items
+  pub noted : AreNoted text 0 places read filled.lines
 
 -- a record that became no row is counted
-pub record IsLeftOut (before after : Filled) : Type 0 where
-  pub same : after.heap.state ≡ before.heap.state
-  pub counted : after.rows ≡ before.rows
-  pub left_out : after.left_out ≡ before.left_out + 1
+abbrev pub IsLeftOut : Filled → Filled → Type 0
+IsLeftOut before after = after ≡ record before { left_out = before.left_out + 1 }
 
--- a record that became that row was put in
-pub record IsRowPut (width : ℕ) (sources : List Source) (fields : List (List ℕ)) (before after : Filled) : Type 0 where
-  pub row : List Cell
-  pub spelled : SpellsRow width sources fields row
-  pub put : IsPutIn before.heap.state row after.heap.state
+-- a row that came from that line was put in
+pub record PutsRow (row : List Cell) (line : ℕ) (before after : Filled) : Type 0 where
+  pub place : Rid
+  pub put : IsPutIn before.heap.state row place after.heap.state
+  pub open_txns : KeepsOpen before.heap.state after.heap.state
+  pub noted : NotesLine before.lines place line after.lines
+  pub sized : AddsRow row before.sizes.items after.sizes.items
   pub counted : after.rows ≡ before.rows + 1
   pub left_out : after.left_out ≡ before.left_out
+
+-- a record that became that row was put in
+pub record IsRowPut (width : ℕ) (sources : List Source) (fields : List (List ℕ)) (line : ℕ) (before after : Filled) : Type 0 where
+  pub row : List Cell
+  pub spelled : SpellsRow width sources fields row
+  pub put : PutsRow row line before after
 
 -- records are left out only where the bad ones are to be skipped
 abbrev pub LeavesOutIf : Bool → Filled → Type 0
 LeavesOutIf skips_bad filled = skips_bad ≡ false → filled.left_out ≡ 0
 
 -- a record was taken, one way or the other
-abbrev pub TakesRecord : ℕ → List Source → List (List ℕ) → Filled → Filled → Type 0
-TakesRecord width sources fields before after = IsRowPut width sources fields before after ⊎ (IsNoRow width sources fields × IsLeftOut before after)
+abbrev pub TakesRecord : ℕ → List Source → List (List ℕ) → ℕ → Filled → Filled → Type 0
+TakesRecord width sources fields line before after =
+    IsRowPut width sources fields line before after ⊎ (IsNoRow width sources fields × IsLeftOut before after)
+
+-- transactions may have begun and ended, and nothing else happened
+pub record OnlyTurns (before after : Filled) : Type 0 where
+  pub rows : KeepsRows before.heap.state.log after.heap.state.log
+  pub rest : after ≡ record before { heap = after.heap }
 
 -- a table was filled from the text: the first record is the header, by whose names the fields of all others are read
 pub record IsTakenIn (columns : List Column) (text : List ℕ) (start : HeapState) (filled : Filled) : Type 0 where
@@ -100,7 +122,9 @@ pub record IsTakenIn (columns : List Column) (text : List ℕ) (start : HeapStat
   pub are : records_of text ≡ header ∷ records
   pub sources : List Source
   pub found : AreFound header columns sources
-  pub taken : AreTaken (length header) sources records start filled
+  -- how far the text was read
+  pub read : ℕ
+  pub taken : AreTaken (length header) sources text read records start filled
 
 -- so was an empty table
 abbrev pub IsFilledFrom : List Kind → List Column → List ℕ → Filled → Type 0

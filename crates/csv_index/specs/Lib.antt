@@ -4,3 +4,8 @@ pub mod Cells
 pub mod Fillings
 pub mod Failures
 pub mod Headers
+pub mod Lines
+pub mod OpenTxns
+pub mod Sizes
+pub mod Runs
+pub mod Printed

@@ -1,4 +1,9 @@
 //! What became of the indexes, as it is printed.
+ghost use Rattle.std.specs.Prelude.{◌≡◌, IfOk, [], OnOk};
+ghost use Rattle.std.specs.List.{list_all};
+ghost use Rattle.crew.specs.MadeReady.{is_ready};
+ghost use Rattle.csv.specs.Records.{fields_of};
+ghost use Rattle.csv_index.specs.Printed.{IsBetween};
 
 use crate::facts::Facts;
 use crate::row_printer::RowPrinter;
@@ -54,10 +59,13 @@ pub fn print_verdicts<T: TableRings, W: Write>(
     live: &mut Live<T>,
     verdicts: &[Outcome],
     out: &mut W,
-) -> Result<bool, Failure> {
+) -> Result<bool, Failure>
+    ensures { IfOk result (λ all_ready. all_ready ≡ list_all is_ready verdicts.now) }
+{
     let mut all_ready = true;
     for (place, verdict) in verdicts.iter().enumerate() {
-        all_ready = print_verdict(facts, live, place, verdict, out)? && all_ready;
+        let is_ready = print_verdict(facts, live, place, verdict, out)?;
+        all_ready = all_ready && is_ready;
     }
     if facts.words.skips_bad {
         let left_out = facts.left_out;
@@ -73,7 +81,9 @@ fn print_verdict<T: TableRings, W: Write>(
     place: usize,
     verdict: &Outcome,
     out: &mut W,
-) -> Result<bool, Failure> {
+) -> Result<bool, Failure>
+    ensures { IfOk result (λ is. is ≡ is_ready verdict.now) }
+{
     let (Some(word), Some(spec)) = (facts.words.indexes.get(place), facts.asked.specs.get(place))
     else {
         return Err(Failure::Table(Fault::BadCount));
@@ -156,7 +166,9 @@ fn print_cells<W: Write + Drop>(
     printer: &mut RowPrinter<W>,
     spec: &KeySpec,
     cells: &[Cell],
-) -> Result<(), Failure> {
+) -> Result<(), Failure>
+    requires { IsBetween printer.old.writer }
+{
     for column in spec.columns() {
         if let Some(cell) = cells.get(column.column) {
             printer.cell(cell)?;

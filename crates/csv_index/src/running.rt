@@ -1,5 +1,9 @@
 //! A run from its words to what is printed.
-ghost use Rattle.std.specs.Prelude.{◌≡◌, ◌≤◌};
+ghost use Rattle.std.specs.Prelude.{◌≡◌, ◌≤◌, IfOk, IfSome, IsOkAnd, map};
+ghost use Rattle.csv_index.specs.Fillings.{IsFilledFrom};
+ghost use Rattle.std.specs.List.{list_all};
+ghost use Rattle.crew.specs.MadeReady.{is_ready};
+ghost use Rattle.csv_index.specs.Runs.{EndsBuilt, ExitsWith, IsBuilt, RunsOn};
 
 use crate::built::Built;
 use crate::facts::Facts;
@@ -21,6 +25,9 @@ use std::io::{self, ErrorKind, Read, Write};
 use std::marker::Brand;
 use std::sync::Wait;
 use std::thread::{Threads, available_parallelism};
+
+/// The exit status of a run that came to nothing.
+const FAILED: u8 = 2;
 
 /// How many workers there are where nobody knows how many processors.
 const WORKERS: usize = 4;
@@ -52,7 +59,8 @@ where
     W: Write + Drop,
     E: Write + Drop,
     V: Watch + Send + Drop,
-    ensures { result ≤ 2 }
+    ensures limit { result ≤ 2 }
+    ensures status { IfSome (R.remaining reader) (λ text. ExitsWith (map (λ word. word.unique) words.now.indexes.items) text result) }
 {
     match run(rt, alloc, words, &mut reader, &mut out, &mut err, watch) {
         Ok(true) => 0,
@@ -63,17 +71,17 @@ where
 
 /// Says that the file can't be read, and why, and answers the exit status.
 pub fn refuse<E: Write + Drop>(file: &str, error: io::Error, mut err: E) -> u8
-    ensures { result ≤ 2 }
+    ensures { result ≡ 2 }
 {
     say(file, &Failure::CannotRead(error), &mut err)
 }
 
 /// Says why a run on the file came to nothing, and answers the exit status.
 fn say<E: Write>(file: &str, failure: &Failure, err: &mut E) -> u8
-    ensures { result ≤ 2 }
+    ensures { result ≡ 2 }
 {
     let _not_told = write_failure(file, failure, err);
-    failure.status()
+    FAILED
 }
 
 fn write_failure<E: Write>(file: &str, failure: &Failure, err: &mut E) -> io::Result<()> {
@@ -102,6 +110,7 @@ where
     W: Write,
     E: Write,
     V: Watch + Send + Drop,
+    ensures { IfSome (R.remaining reader.old) (λ text. IfOk result (RunsOn (map (λ word. word.unique) words.now.indexes.items) text)) }
 {
     let asked = Asked::new(alloc, words)?;
     let searches = searches(alloc, words, &asked)?;
@@ -135,7 +144,9 @@ fn read<R: Read, V: Watch>(
     asked: &Asked,
     reader: &mut R,
     watch: &mut V,
-) -> Result<Filled, Failure> {
+) -> Result<Filled, Failure>
+    ensures { IfSome (R.remaining reader.old) (λ text. IfOk result (IsFilledFrom asked.now.schema asked.now.columns.items text)) }
+{
     let mut text = Vec::new(alloc);
     if let Err(error) = reader.read_to_end(&mut text) {
         return Err(match error.kind() {
@@ -172,6 +183,7 @@ where
     W: Write,
     E: Write,
     V: Watch + Send + Drop,
+    ensures { IfOk result (λ all_ready. IsOkAnd work (λ work. EndsBuilt heap.state.log work.plan.specs.items all_ready)) }
 {
     let work = work?;
     let parts = table_parts(facts.alloc, heap)?;
@@ -198,7 +210,9 @@ fn processors<A: Threads>(threads: &A) -> usize {
     }
 }
 
-fn planned(alloc: Global, asked: &Asked, amount: Amount<'_>) -> Result<Work, Fault> {
+fn planned(alloc: Global, asked: &Asked, amount: Amount<'_>) -> Result<Work, Fault>
+    ensures { IfOk result (λ work. work.plan.specs.items ≡ asked.now.specs.items) }
+{
     let spools = counted_spools(alloc, amount, asked.specs.as_slice())?;
     let specs = copied_specs(alloc, asked.specs.as_slice())?;
     Ok(Work {
@@ -214,7 +228,9 @@ fn planned(alloc: Global, asked: &Asked, amount: Amount<'_>) -> Result<Work, Fau
 }
 
 /// The table, ready to be shared.
-fn table_parts(alloc: Global, heap: Heap) -> Result<TableParts, Fault> {
+fn table_parts(alloc: Global, heap: Heap) -> Result<TableParts, Fault>
+    ensures { IfOk result (λ made. made.parts.heap ≡ heap.state) }
+{
     let parts = match Parts::new(alloc, heap) {
         Ok(parts) => parts,
         Err((_, fault)) => return Err(fault),
@@ -245,6 +261,7 @@ where
     requires pages { parts.parts.pages ≡ T.pages }
     requires sides { parts.parts.sides ≡ T.sides }
     requires opening { parts.parts.heap.log ≡ T.opening }
+    ensures { IfOk result (EndsBuilt T.opening work.plan.specs.items) }
 {
     let (table, ends) = parts.open::<T>();
     let built = build_all(rt, facts, &table, ends, work, watch);
@@ -265,6 +282,7 @@ where
     T: Opened + Send + Sync,
     A: Threads + Wait + Sync,
     V: Watch + Send + Drop,
+    ensures { IfOk result (λ built. IsBuilt T.opening work.plan.specs.items built.verdicts) }
 {
     let Work { plan, spools } = work;
     let gate = Watching::new(rt, watch, facts.pages);
@@ -286,15 +304,29 @@ fn tell<T: Opened, W: Write, E: Write>(
     built: Result<Built, Fault>,
     out: &mut W,
     err: &mut E,
-) -> Result<bool, Failure> {
+) -> Result<bool, Failure>
+    ensures { IfOk result (λ all_ready. IsOkAnd built (λ built. all_ready ≡ list_all is_ready built.verdicts)) }
+{
     let built = built?;
     // That it can't be told how much was done is no reason to end.
     let _not_told = print_counts(facts, live, built.spools.as_slice(), err);
     let all_ready = print_verdicts(facts, live, built.verdicts.as_slice(), out)?;
     // Where the first index isn't ready, no rows are printed behind this.
     out.flush()?;
-    list(facts, live, built.verdicts.as_slice(), out)?;
+    if !list(facts, live, built.verdicts.as_slice(), out)? {
+        let _not_told = write_unlisted(err);
+        return Ok(false);
+    }
     // Whatever the printer of rows couldn't send on as it ended is told by this.
     out.flush()?;
     Ok(all_ready)
+}
+
+/// Says that there are no rows to list.
+fn write_unlisted<E: Write>(err: &mut E) -> io::Result<()> {
+    writeln!(
+        err,
+        "sfbuild index: the first index isn't ready, and gives no rows"
+    )?;
+    err.flush()
 }

@@ -1,4 +1,6 @@
 //! The spools of a build.
+ghost use Rattle.std.specs.Prelude.{◌≡◌};
+ghost use Rattle.csv_index.specs.Sizes.{keys_sizes, pages_of, quota_of};
 
 use crate::table::KeySizes;
 use builder_core::{INDEXES_MAX, WORKERS_MAX};
@@ -67,7 +69,9 @@ fn spools(alloc: Global, amount: Amount<'_>, specs: &[KeySpec]) -> Result<Vec<Sp
 }
 
 /// The pages that a spool of the index is given, of so many spools: as many as all pairs take, where that isn't too much for all spools together.
-fn quota(amount: Amount<'_>, spec: &KeySpec, spools: usize) -> u32 {
+fn quota(amount: Amount<'_>, spec: &KeySpec, spools: usize) -> u32
+    ensures { result ≡ quota_of (pages_of amount.entry.rows (keys_sizes amount.entry.sizes.now spec.now.columns)) amount.entry.workers spools }
+{
     let whole = pages_for(amount.rows, sizes_of(amount, spec));
     let parts = if whole.saturating_mul(spools as u64) <= AMPLE {
         1
@@ -79,14 +83,18 @@ fn quota(amount: Amount<'_>, spec: &KeySpec, spools: usize) -> u32 {
 }
 
 /// The pages that so many pairs take at most, whose keys have these sizes.
-fn pages_for(rows: u64, sizes: KeySizes) -> u64 {
+fn pages_for(rows: u64, sizes: KeySizes) -> u64
+    ensures { result ≡ pages_of rows sizes }
+{
     let bytes = sizes.bytes.saturating_add(rows.saturating_mul(FIXED_SIZE));
     let full = PAGE_SIZE as u64 - FIXED_SIZE - sizes.longest.min(KEY_MAX) as u64;
     bytes.div_ceil(full).saturating_add(rows / RUN_PAIRS)
 }
 
 /// How many bytes the keys of the index have.
-fn sizes_of(amount: Amount<'_>, spec: &KeySpec) -> KeySizes {
+fn sizes_of(amount: Amount<'_>, spec: &KeySpec) -> KeySizes
+    ensures { result ≡ keys_sizes amount.entry.sizes.now spec.now.columns }
+{
     let mut sizes = KeySizes::NONE;
     for column in spec.columns() {
         if let Some(of_column) = amount.sizes.get(column.column) {

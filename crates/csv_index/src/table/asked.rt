@@ -1,3 +1,5 @@
+ghost use Rattle.std.specs.Prelude.{◌≡◌, IfOk, map};
+
 use crate::table::column::{Column, columns, schema};
 use crate::table::condition::condition;
 use crate::table::failure::Failure;
@@ -28,7 +30,11 @@ impl Drop for Asked {
 }
 
 impl Asked {
-    pub fn new(alloc: Global, words: &IndexWords<'_>) -> Result<Asked, Failure> {
+    pub fn new(alloc: Global, words: &IndexWords<'_>) -> Result<Asked, Failure>
+        ensures schema { IfOk result (λ asked. asked.schema ≡ map (λ column. column.kind) asked.columns.items) }
+        ensures unique { IfOk result (λ asked.
+            map (λ spec. spec.unique) asked.specs.items ≡ map (λ word. word.unique) words.now.indexes.items) }
+    {
         let columns = columns(alloc, words.columns)?;
         let schema = schema(alloc, columns.as_slice())?;
         let specs = specs(alloc, &schema, columns.as_slice(), words)?;
@@ -45,7 +51,9 @@ fn specs(
     schema: &Schema,
     columns: &[Column],
     words: &IndexWords<'_>,
-) -> Result<Vec<KeySpec>, Failure> {
+) -> Result<Vec<KeySpec>, Failure>
+    ensures { IfOk result (λ specs. map (λ spec. spec.unique) specs.items ≡ map (λ word. word.unique) words.now.indexes.items) }
+{
     if words.indexes.is_empty() {
         return Err(Failure::refused(alloc, Refusal::NoIndex, ""));
     }
@@ -66,7 +74,9 @@ fn spec(
     columns: &[Column],
     index: IndexWord<'_>,
     condition: Option<&str>,
-) -> Result<KeySpec, Failure> {
+) -> Result<KeySpec, Failure>
+    ensures { IfOk result (λ spec. spec.unique ≡ index.entry.unique) }
+{
     let spec = key_spec(alloc, schema, columns, index.columns, index.unique)?;
     match condition {
         Some(text) => with_condition(alloc, schema, columns, spec, text),
@@ -80,7 +90,9 @@ fn with_condition(
     columns: &[Column],
     spec: KeySpec,
     text: &str,
-) -> Result<KeySpec, Failure> {
+) -> Result<KeySpec, Failure>
+    ensures { IfOk result (λ partial. partial.unique ≡ spec.unique) }
+{
     let condition = condition(alloc, columns, text)?;
     match spec.with_when(schema, condition) {
         Ok(spec) => Ok(spec),

@@ -1,3 +1,5 @@
+ghost use Rattle.std.specs.Prelude.{◌≡◌, IfOk, map};
+
 use crate::table::failure::Failure;
 use crate::table::list::record;
 use crate::table::refusal::Refusal;
@@ -74,7 +76,9 @@ pub fn place_of(columns: &[Column], name: &str) -> Option<usize> {
 }
 
 /// What the rows of a table of these columns have.
-pub fn schema(alloc: Global, columns: &[Column]) -> Result<Schema, Failure> {
+pub fn schema(alloc: Global, columns: &[Column]) -> Result<Schema, Failure>
+    ensures { IfOk result (λ schema. schema ≡ map (λ column. column.kind) columns.now) }
+{
     let mut kinds = Vec::with_capacity(alloc, columns.len())?;
     for column in columns {
         kinds.push(column.kind)?;

@@ -1,4 +1,3 @@
-ghost use Rattle.std.specs.Prelude.{◌≤◌};
 ghost use Rattle.csv_index.specs.Failures.{NamesRefusal};
 
 use crate::table::bad_row::BadRow;
@@ -21,8 +20,6 @@ pub enum Failure {
     Row(u64, BadRow, String),
     /// The table or its build refuses all.
     Table(Fault),
-    /// The first index isn't ready, so it gives no rows.
-    NotReady,
 }
 
 impl Failure {
@@ -42,16 +39,6 @@ impl Failure {
             Failure::CannotRead(_) | Failure::Row(..) => true,
             Failure::Refused(refusal, _) => refusal.is_of_header(),
             _ => false,
-        }
-    }
-
-    /// The exit status that it ends a program with.
-    pub fn status(&self) -> u8
-        ensures { result ≤ 2 }
-    {
-        match self {
-            Failure::NotReady => 1,
-            _ => 2,
         }
     }
 }
@@ -82,7 +69,6 @@ impl fmt::Display for Failure {
                 )
             }
             Failure::Table(fault) => write!(f, "{fault}"),
-            Failure::NotReady => f.write_str("the first index isn't ready, and gives no rows"),
         }
     }
 }

@@ -1,10 +1,12 @@
 //! From the records of a file to the rows of a table.
-ghost use Rattle.std.specs.Prelude.{◌≡◌, ◌⊎◌, ◌+◌, ◌-◌, ◌<◌, ◌^◌, [], ◌∷◌, Ok, true, false, IfErr, IfOk, OnOk};
+ghost use Rattle.std.specs.Prelude.{◌≡◌, ◌⊎◌, ◌+◌, ◌-◌, ◌<◌, ◌^◌, [], ◌∷◌, Ok, true, false, IfErr, IfOk, OnOk, length};
 ghost use Rattle.csv.specs.Records.{field_at, fields_of};
 ghost use Rattle.heap_table.specs.Pages.{KeepsRows};
 ghost use Rattle.csv_index.specs.BadRows.{IsOfRecord};
 ghost use Rattle.csv_index.specs.Cells.{IsNoCell};
-ghost use Rattle.csv_index.specs.Fillings.{AreTaken, IsCellAt, IsFilledFrom, IsLeftOut, IsNoRow, IsPutIn, IsTakenIn, LeavesOutIf, SpellsRow, TakesRecord, field_or_empty};
+ghost use Rattle.csv_index.specs.Fillings.{AreTaken, IsCellAt, IsFilledFrom, IsLeftOut, IsNoRow, IsTakenIn, LeavesOutIf, OnlyTurns, PutsRow, SpellsRow, TakesRecord, field_or_empty};
+ghost use Rattle.csv_index.specs.OpenTxns.{IsAlone, NoneIsOpen};
+ghost use Rattle.csv_index.specs.Sizes.{AddsRow, HaveSizes};
 
 use crate::table::bad_row::BadRow;
 use crate::table::cell_fault::CellFault;
@@ -56,6 +58,7 @@ pub fn fill<V: Watch>(
 ) -> Result<Filled, Failure>
     ensures taken { IfOk result (IsFilledFrom schema reading.entry.columns.now text.now) }
     ensures skipped { IfOk result (LeavesOutIf reading.entry.skips_bad) }
+    ensures ended { IfOk result (λ filled. NoneIsOpen filled.heap.state) }
 {
     let alloc = reading.alloc;
     let mut filled = Filled {
@@ -79,8 +82,11 @@ fn read_all<V: Watch>(
 ) -> Result<(), Failure>
     requires rows { filled.old.rows ≡ 0 }
     requires left_out { filled.old.left_out ≡ 0 }
+    requires sizes { HaveSizes (length reading.columns.now) [] filled.old.sizes.items }
+    requires closed { NoneIsOpen filled.old.heap.state }
     ensures taken { OnOk result (IsTakenIn reading.entry.columns.now text.now filled.old.heap.state filled.new) }
     ensures skipped { OnOk result (LeavesOutIf reading.entry.skips_bad filled.new) }
+    ensures ended { OnOk result (NoneIsOpen filled.new.heap.state) }
 {
     let mut records = Records::new(reading.alloc, text);
     let mut record = ByteRecord::new(reading.alloc);
@@ -115,13 +121,17 @@ fn read_rows<V: Watch>(
 ) -> Result<(), Failure>
     requires rows { filled.old.rows ≡ 0 }
     requires left_out { filled.old.left_out ≡ 0 }
-    ensures taken { OnOk result (AreTaken layout.now.width layout.now.sources.items records.old filled.old.heap.state filled.new) }
+    requires sizes { HaveSizes (length layout.now.sources.items) [] filled.old.sizes.items }
+    requires closed { NoneIsOpen filled.old.heap.state }
+    ensures taken { OnOk result (AreTaken layout.now.width layout.now.sources.items
+        lines.old.text lines.new.passed records.old filled.old.heap.state filled.new) }
     ensures skipped { OnOk result (LeavesOutIf reading.entry.skips_bad filled.new) }
+    ensures ended { OnOk result (NoneIsOpen filled.new.heap.state) }
 {
     let mut txn = begin(&mut filled.heap)?;
     for number in 0..u64::MAX {
         if !read(records, record)? {
-            filled.heap.commit(txn)?;
+            end(&mut filled.heap, txn)?;
             return Ok(());
         }
         txn = turn(filled, txn, number, watch)?;
@@ -144,24 +154,38 @@ fn read(records: &mut Records<'_>, record: &mut ByteRecord) -> Result<bool, Fail
 }
 
 fn begin(heap: &mut Heap) -> Result<u64, Failure>
-    ensures { OnOk result (KeepsRows heap.old.state.log heap.new.state.log) }
+    requires { NoneIsOpen heap.old.state }
+    ensures rows { OnOk result (KeepsRows heap.old.state.log heap.new.state.log) }
+    ensures alone { IfOk result (λ txn. IsAlone txn heap.new.state) }
 {
-    Ok(heap.begin()?)
+    let txn = heap.begin()?;
+    Ok(txn)
 }
 
 /// Ends a transaction, and begins the next.
 fn next_txn(heap: &mut Heap, txn: u64) -> Result<u64, Failure>
-    ensures { OnOk result (KeepsRows heap.old.state.log heap.new.state.log) }
+    requires { IsAlone txn heap.old.state }
+    ensures rows { OnOk result (KeepsRows heap.old.state.log heap.new.state.log) }
+    ensures alone { IfOk result (λ next. IsAlone next heap.new.state) }
+{
+    end(heap, txn)?;
+    begin(heap)
+}
+
+fn end(heap: &mut Heap, txn: u64) -> Result<(), Failure>
+    requires { IsAlone txn heap.old.state }
+    ensures rows { OnOk result (KeepsRows heap.old.state.log heap.new.state.log) }
+    ensures none { OnOk result (NoneIsOpen heap.new.state) }
 {
     heap.commit(txn)?;
-    Ok(heap.begin()?)
+    Ok(())
 }
 
 /// The transaction of the record of that number, from 0, behind the one that is given.
 fn turn<V: Watch>(filled: &mut Filled, txn: u64, number: u64, watch: &mut V) -> Result<u64, Failure>
-    ensures kept { OnOk result (KeepsRows filled.old.heap.state.log filled.new.heap.state.log) }
-    ensures counted { OnOk result (filled.new.rows ≡ filled.old.rows) }
-    ensures left_out { OnOk result (filled.new.left_out ≡ filled.old.left_out) }
+    requires { IsAlone txn filled.old.heap.state }
+    ensures turns { OnOk result (OnlyTurns filled.old filled.new) }
+    ensures alone { IfOk result (λ next. IsAlone next filled.new.heap.state) }
 {
     if number % ROWS_OF_A_TRANSACTION != ROWS_OF_A_TRANSACTION - 1 {
         return Ok(txn);
@@ -180,7 +204,7 @@ fn take(
     filled: &mut Filled,
 ) -> Result<(), Failure>
     requires { filled.old.rows + filled.old.left_out < 2 ^ 64 - 1 }
-    ensures taken { OnOk result (TakesRecord layout.now.width layout.now.sources.items (fields_of «record».now) filled.old filled.new) }
+    ensures taken { OnOk result (TakesRecord layout.now.width layout.now.sources.items (fields_of «record».now) line filled.old filled.new) }
     ensures skipped { OnOk result (reading.entry.skips_bad ≡ false → filled.new.left_out ≡ filled.old.left_out) }
 {
     match read_row(reading, layout, record) {
@@ -219,11 +243,9 @@ fn leave_out(
 /// Puts a row into the table.
 fn put(alloc: Global, row: Row, line: u64, txn: u64, filled: &mut Filled) -> Result<(), Failure>
     requires { filled.old.rows < 2 ^ 64 - 1 }
-    ensures put { OnOk result (IsPutIn filled.old.heap.state row filled.new.heap.state) }
-    ensures counted { OnOk result (filled.new.rows ≡ filled.old.rows + 1) }
-    ensures left_out { OnOk result (filled.new.left_out ≡ filled.old.left_out) }
+    ensures { OnOk result (PutsRow row line filled.old filled.new) }
 {
-    add_sizes(&mut filled.sizes, row.cells());
+    add_sizes(filled.sizes.as_mut_slice(), row.cells());
     match filled.heap.insert(txn, row) {
         Ok((_, rid)) => filled.lines.note(rid, line)?,
         Err(fault) => return Err(Failure::Row(line, BadRow::Refused(fault), String::new(alloc))),
@@ -233,10 +255,12 @@ fn put(alloc: Global, row: Row, line: u64, txn: u64, filled: &mut Filled) -> Res
 }
 
 /// Another row has these cells.
-fn add_sizes(sizes: &mut Vec<KeySizes>, cells: &[Cell]) {
-    for (place, cell) in cells.iter().enumerate() {
-        if let Some(sizes) = sizes.get_mut(place) {
-            sizes.add(cell);
+fn add_sizes(sizes: &mut [KeySizes], cells: &[Cell])
+    ensures { AddsRow cells.now sizes.old sizes.new }
+{
+    for (place, of_column) in sizes.iter_mut().enumerate() {
+        if let Some(cell) = cells.get(place) {
+            of_column.add(cell);
         }
     }
 }

@@ -1,3 +1,7 @@
+ghost use Rattle.std.specs.Prelude.{◌≡◌, ◌+◌, ◌==◌, List, [], ◌∷◌, ◌++◌, length, count_by};
+ghost use Rattle.keybytes.specs.declared.cell.Cell.{Cell};
+ghost use Rattle.csv_index.specs.Sizes.{counted, key_size, sizes_of_cells};
+
 use keybytes::Cell;
 
 /// How many bytes the cells of a column take in the keys of an index on it.
@@ -16,14 +20,19 @@ impl KeySizes {
     };
 
     /// Another row has that cell.
-    pub fn add(&mut self, cell: &Cell) {
+    pub fn add(&mut self, cell: &Cell)
+        ensures { (cells : List Cell) → self.old ≡ sizes_of_cells cells → self.new ≡ sizes_of_cells (cells ++ cell.now ∷ []) }
+    {
         let size = size_of(cell);
         self.bytes = self.bytes.saturating_add(size as u64);
         self.longest = self.longest.max(size);
     }
 
     /// Those of keys that have both columns.
-    pub fn and(self, other: KeySizes) -> KeySizes {
+    pub fn and(self, other: KeySizes) -> KeySizes
+        ensures bytes { result.bytes ≡ counted (self.bytes + other.bytes) }
+        ensures longest { result.longest ≡ counted (self.longest + other.longest) }
+    {
         KeySizes {
             bytes: self.bytes.saturating_add(other.bytes),
             longest: self.longest.saturating_add(other.longest),
@@ -32,15 +41,20 @@ impl KeySizes {
 }
 
 /// A tag, and a number, a flag, or a text with two bytes of end mark, in which each byte 0 is followed by another.
-fn size_of(cell: &Cell) -> usize {
+fn size_of(cell: &Cell) -> usize
+    ensures { result ≡ counted (key_size cell.now) }
+{
     match cell {
         Cell::Null => 1,
         Cell::Int(_) => 9,
         Cell::Flag(_) => 2,
-        Cell::Text(text) => {
-            let bytes = text.as_str().as_bytes();
-            let zeros = bytes.iter().filter(|byte| **byte == 0).count();
-            bytes.len().saturating_add(zeros).saturating_add(3)
-        }
+        Cell::Text(text) => size_of_text(text.as_str().as_bytes()),
     }
+}
+
+fn size_of_text(bytes: &[u8]) -> usize
+    ensures { result ≡ counted (length bytes.now + count_by (λ byte. byte == 0) bytes.now + 3) }
+{
+    let zeros = bytes.iter().filter(|byte| **byte == 0).count();
+    bytes.len().saturating_add(zeros).saturating_add(3)
 }

@@ -1,7 +1,13 @@
+ghost use Rattle.std.specs.Prelude.{◌≡◌, ◌≢◌, ◌<◌, ℕ, OnOk, [], map, slice_index, vec_len};
+ghost use Rattle.std.specs.Vec.{vec_items};
+ghost use Rattle.keybytes.specs.declared.rid.Rid.{Rid};
+ghost use Rattle.csv_index.specs.Lines.{NotesLine, line_of};
+
 use keybytes::{Fault, Rid};
 use std::alloc::Global;
+use std::marker::Model;
 
-/// The lines of the rows in the file, by their places in the table.
+/// The lines of the rows in the file, by their places in the table. Contracts see those of each page, by slot.
 pub struct Lines {
     alloc: Global,
     /// Those of each page, by slot.
@@ -14,28 +20,39 @@ impl Drop for Lines {
     }
 }
 
+impl Model for Lines {
+    ghost use Rattle.std.specs.Prelude.{ℕ, List, map};
+    ghost use Rattle.std.specs.Vec.{vec_items};
+
+    ghost Value = { List (List ℕ) };
+
+    ghost view = { λ lines. map vec_items lines.pages.items };
+}
+
 impl Lines {
-    pub fn new(alloc: Global) -> Lines {
+    pub fn new(alloc: Global) -> Lines
+        ensures { result ≡ [] }
+    {
         Lines {
             alloc,
             pages: Vec::new(alloc),
         }
     }
 
-    /// The row at that place came from that line. The slots of each page come in order, though a row may go to an earlier page with room.
-    pub fn note(&mut self, rid: Rid, line: u64) -> Result<(), Fault> {
+    /// The row at that place came from that line.
+    pub fn note(&mut self, rid: Rid, line: u64) -> Result<(), Fault>
+        ensures { OnOk result (NotesLine self.old rid line self.new) }
+    {
         let page = rid.page as usize;
-        for _ in self.pages.len()..=page {
-            self.pages.push(Vec::new(self.alloc))?;
-        }
-        match self.pages.get_mut(page) {
-            Some(lines) => note_slot(lines, usize::from(rid.slot), line),
-            None => Ok(()),
-        }
+        add_pages(self.alloc, &mut self.pages, page)?;
+        note_slot(&mut self.pages[page], usize::from(rid.slot), line)?;
+        Ok(())
     }
 
-    /// The line of the row at that place.
-    pub fn line(&self, rid: Rid) -> u64 {
+    /// The line of the row at that place, or 0 where none is noted.
+    pub fn line(&self, rid: Rid) -> u64
+        ensures { result ≡ line_of self.now rid }
+    {
         match self.pages.get(rid.page as usize) {
             Some(lines) => lines.get(usize::from(rid.slot)).copied().unwrap_or(0),
             None => 0,
@@ -43,10 +60,25 @@ impl Lines {
     }
 }
 
-fn note_slot(lines: &mut Vec<u64>, slot: usize, line: u64) -> Result<(), Fault> {
-    for _ in lines.len()..slot {
+/// Has the lines of that page, where there are none yet.
+fn add_pages(alloc: Global, pages: &mut Vec<Vec<u64>>, page: usize) -> Result<(), Fault>
+    ensures there { OnOk result (page < vec_len pages.new) }
+    ensures same { (rid : Rid) → line_of (map vec_items pages.new.items) rid ≡ line_of (map vec_items pages.old.items) rid }
+{
+    while pages.len() <= page {
+        pages.push(Vec::new(alloc))?;
+    }
+    Ok(())
+}
+
+/// Notes the line of that slot, among those of its page.
+fn note_slot(lines: &mut Vec<u64>, slot: usize, line: u64) -> Result<(), Fault>
+    ensures here { OnOk result (slice_index lines.new.items slot ≡ line) }
+    ensures elsewhere { OnOk result ((other : ℕ) → other ≢ slot → slice_index lines.new.items other ≡ slice_index lines.old.items other) }
+{
+    while lines.len() <= slot {
         lines.push(0)?;
     }
-    lines.push(line)?;
+    lines[slot] = line;
     Ok(())
 }
