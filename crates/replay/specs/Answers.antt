@@ -1,6 +1,6 @@
 -- What a command does to the table, and what it is answered. A word of this file that ends with a table, an answer and a
 -- table says of the three what stands before a command, what it is answered and what it leaves.
-use Rattle.std.specs.Prelude.{◌≡◌, ◌≢◌, ℕ, zero, suc, false, Vec, List, [], Option, Some, None, Result, Ok, Err, ◌⊎◌}
+use Rattle.std.specs.Prelude.{true, ◌≡◌, ◌≢◌, ℕ, zero, suc, false, Vec, List, [], Option, Some, None, Result, Ok, Err, ◌⊎◌}
 use Rattle.keybytes.specs.Faults.{RefusedFor}
 use Rattle.keybytes.specs.Rows.{row_refusal}
 use Rattle.keybytes.specs.declared.cell.Cell.{Cell}
@@ -141,7 +141,7 @@ Decides old given new =
     × (given ≡ answer.Switched number verdicts 0) × (list_any is_refusal verdicts ≡ false) × EndsBuild event.Switch (reply.Switched number verdicts) old new)
     ⊎ ((number : ℕ) × (verdicts : List Outcome) × (lines : Vec SharedLine Global)
     × (given ≡ answer.SomeRefused number verdicts lines 0) × (OnBuild old.live.build (λ b. ListsShared 0 b.specs verdicts lines.items) ⊎ (lines.items ≡ []))
-    × EndsBuild event.Switch (reply.Switched number verdicts) old new)
+    × EndsBuild event.Switch (reply.Switched number verdicts) old new × (list_any is_refusal verdicts ≡ true))
     ⊎ ((fault : Fault) × (given ≡ answer.Refused fault) × Step old event.Switch (reply.Refused fault) new)
 
 -- the build is given up, and no page of its spools is missing; or that is refused
