@@ -7,6 +7,7 @@ ghost use Rattle.build_events.specs.declared.event.Event.{Event};
 ghost use Rattle.build_events.specs.declared.reply.Reply.{Reply};
 ghost use Rattle.live_lemmas.specs.FullSpools.{NoPageOnlyIfFull};
 ghost use Rattle.page_workers.specs.declared.turn.Turn.{Turn};
+ghost use Rattle.run_spool.specs.Spools.{IsFullIntact};
 
 use crate::{Core, Plan, TableRings};
 use heap_log::Verdicts;
@@ -111,7 +112,7 @@ impl<S: Spool, T: TableRings> Core<S, T> {
     /// of a page spoils the build. [`Fault::NoBuild`], [`Fault::BadCount`], the fault of a spoiled build, [`Fault::NoPage`].
     pub fn digest(&mut self, worker: usize) -> Result<usize, Fault>
         ensures answers { AnswersBy Reply.Digested self.old (Event.Digest worker) result self.new }
-        ensures full { IfErr result (NoPageOnlyIfFull S.is_full S.runs S.open_run S.stake Turn.Digest self.old worker) }
+        ensures full { IfErr result (NoPageOnlyIfFull (IsFullIntact S.is_full S.is_intact S.runs) S.runs S.open_run S.stake Turn.Digest self.old worker) }
     {
         self.live.check_worker(worker, &self.building)?;
         let images = self.live.digest(worker, &mut self.building)?;
@@ -121,7 +122,7 @@ impl<S: Spool, T: TableRings> Core<S, T> {
     /// The worker takes all copies that wait, and closes its runs; answered with their number. Refused as [`Core::digest`].
     pub fn seal(&mut self, worker: usize) -> Result<usize, Fault>
         ensures answers { AnswersBy Reply.Sealed self.old (Event.Seal worker) result self.new }
-        ensures full { IfErr result (NoPageOnlyIfFull S.is_full S.runs S.open_run S.stake Turn.Seal self.old worker) }
+        ensures full { IfErr result (NoPageOnlyIfFull (IsFullIntact S.is_full S.is_intact S.runs) S.runs S.open_run S.stake Turn.Seal self.old worker) }
     {
         self.live.check_worker(worker, &self.building)?;
         let images = self.live.seal(worker, &mut self.building)?;

@@ -15,6 +15,7 @@ ghost use Rattle.build_events.specs.Verdicts.{HaveSharedKeys};
 ghost use Rattle.live_lemmas.specs.FullSpools.{IfSpooling, NoPageOnlyIfFull, WantedPage};
 ghost use Rattle.building.specs.Holding.{spools_in};
 ghost use Rattle.build_events.specs.Soundness.{BuildIsSound};
+ghost use Rattle.run_spool.specs.Spools.{IsFullIntact};
 
 use crate::{Building, Ends, Event, Live, Pair, Plan, ReadyIndex, Reply, TableRings};
 use chunk_list::QueueItems;
@@ -162,7 +163,7 @@ impl<S: Spool, T: TableRings> Core<S, T> {
         ensures stakes { self.new.spools.stakes ≡ self.old.spools.stakes }
         ensures keys { (number : ℕ) (verdicts : List Outcome) → result ≡ Reply.Switched number verdicts
             → OnBuild self.old.live.build (λ b. HaveSharedKeys b.specs verdicts) }
-        ensures full { HasPageCause (WantedPage S.is_full S.runs S.open_run S.stake) self.old event result }
+        ensures full { HasPageCause (WantedPage (IsFullIntact S.is_full S.is_intact S.runs) S.runs S.open_run S.stake) self.old event result }
         ensures ready { ReadyFollowTable self.new.live }
         ensures sound { IfSome self.new.live.build (λ b. BuildIsSound b self.new.live.heap.log) }
     {
@@ -173,7 +174,7 @@ impl<S: Spool, T: TableRings> Core<S, T> {
     /// Does one event that it is lent. A row is copied only once nothing refuses it.
     pub(crate) fn answer(&mut self, event: &Event) -> Reply
         ensures step { Step self.old event.now result self.new }
-        ensures full { HasPageCause (WantedPage S.is_full S.runs S.open_run S.stake) self.old event.now result }
+        ensures full { HasPageCause (WantedPage (IsFullIntact S.is_full S.is_intact S.runs) S.runs S.open_run S.stake) self.old event.now result }
         ensures ready { ReadyFollowTable self.new.live }
         ensures sound { IfSome self.new.live.build (λ b. BuildIsSound b self.new.live.heap.log) }
     {
@@ -198,7 +199,7 @@ impl<S: Spool, T: TableRings> Core<S, T> {
     /// Does one event of its own, or tells why not: the row of a write is handed on.
     fn attempt_own(&mut self, event: Event) -> Result<Reply, Fault>
         ensures answers { Answers self.old event result self.new }
-        ensures full { IfSpooling event (λ turn worker. IfErr result (NoPageOnlyIfFull S.is_full S.runs S.open_run S.stake turn self.old worker)) }
+        ensures full { IfSpooling event (λ turn worker. IfErr result (NoPageOnlyIfFull (IsFullIntact S.is_full S.is_intact S.runs) S.runs S.open_run S.stake turn self.old worker)) }
     {
         match event {
             Event::Insert { txn, row } => {
@@ -216,7 +217,7 @@ impl<S: Spool, T: TableRings> Core<S, T> {
     /// Does one event that it is lent, or tells why not.
     fn attempt(&mut self, event: &Event) -> Result<Reply, Fault>
         ensures answers { Answers self.old event.now result self.new }
-        ensures full { IfSpooling event.now (λ turn worker. IfErr result (NoPageOnlyIfFull S.is_full S.runs S.open_run S.stake turn self.old worker)) }
+        ensures full { IfSpooling event.now (λ turn worker. IfErr result (NoPageOnlyIfFull (IsFullIntact S.is_full S.is_intact S.runs) S.runs S.open_run S.stake turn self.old worker)) }
     {
         match event {
             Event::Begin => Ok(Reply::Begun { txn: self.begin()? }),

@@ -3,6 +3,7 @@ ghost use Rattle.build_events.specs.CoreState.{ReadyFollowTable};
 ghost use Rattle.build_events.specs.Headline.{RunsAsAtRest};
 ghost use Rattle.building.specs.Holding.{spools_in};
 ghost use Rattle.live_lemmas.specs.FullSpools.{WantedPage};
+ghost use Rattle.run_spool.specs.Spools.{IsFullIntact};
 
 use crate::{Core, Ends, Event, Live, Reply, TableRings};
 use index_load::end_spools;
@@ -21,7 +22,7 @@ pub fn run_events<S: Spool, T: TableRings>(
     events: &[Event],
 ) -> (Live<T>, Ends<T>, Vec<S>, Result<Vec<Reply>, Fault>)
     ensures headline { IfOk result.3 (λ replies.
-        RunsAsAtRest (WantedPage S.is_full S.runs S.open_run S.stake) live.state (spools_in S.runs S.open_run S.stake spools.items) events.now replies.items
+        RunsAsAtRest (WantedPage (IsFullIntact S.is_full S.is_intact S.runs) S.runs S.open_run S.stake) live.state (spools_in S.runs S.open_run S.stake spools.items) events.now replies.items
         result.0.state) }
     ensures ready { ReadyFollowTable result.0.state }
     ensures ended { All S.ended result.2.items }

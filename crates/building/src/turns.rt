@@ -1,6 +1,7 @@
 //! The turns of the workers of the build that runs, and their looks into their rings.
 ghost use Rattle.std.specs.Prelude.{◌≡◌, ◌<◌, length, IfOk, IfErr, IsSome, OnOk};
 ghost use Rattle.building.specs.Turns.{WorkerDid, WorkerLooked, WorkerStopped, spoiled_for};
+ghost use Rattle.run_spool.specs.Spools.{IsFullIntact};
 
 use crate::Building;
 use crate::work::Work;
@@ -23,7 +24,7 @@ impl<S: Spool, T: TableRings> Building<S, T> {
         requires there { worker < length self.old.workers }
         requires runs { IsSome self.old.work }
         ensures did { IfOk result (λ images. WorkerDid Turn.Digest worker self.old images self.new) }
-        ensures stopped { IfErr result (λ fault. WorkerStopped S.is_full S.runs S.open_run S.stake Turn.Digest worker self.old fault self.new) }
+        ensures stopped { IfErr result (λ fault. WorkerStopped (IsFullIntact S.is_full S.is_intact S.runs) S.runs S.open_run S.stake Turn.Digest worker self.old fault self.new) }
     {
         self.take(worker, Turn::Digest)
     }
@@ -33,7 +34,7 @@ impl<S: Spool, T: TableRings> Building<S, T> {
         requires there { worker < length self.old.workers }
         requires runs { IsSome self.old.work }
         ensures did { IfOk result (λ images. WorkerDid Turn.Seal worker self.old images self.new) }
-        ensures stopped { IfErr result (λ fault. WorkerStopped S.is_full S.runs S.open_run S.stake Turn.Seal worker self.old fault self.new) }
+        ensures stopped { IfErr result (λ fault. WorkerStopped (IsFullIntact S.is_full S.is_intact S.runs) S.runs S.open_run S.stake Turn.Seal worker self.old fault self.new) }
     {
         self.take(worker, Turn::Seal)
     }
@@ -43,7 +44,7 @@ impl<S: Spool, T: TableRings> Building<S, T> {
         requires there { worker < length self.old.workers }
         requires runs { IsSome self.old.work }
         ensures did { IfOk result (λ images. WorkerDid turn worker self.old images self.new) }
-        ensures stopped { IfErr result (λ fault. WorkerStopped S.is_full S.runs S.open_run S.stake turn worker self.old fault self.new) }
+        ensures stopped { IfErr result (λ fault. WorkerStopped (IsFullIntact S.is_full S.is_intact S.runs) S.runs S.open_run S.stake turn worker self.old fault self.new) }
     {
         let Some(work) = &mut self.work else {
             unreachable!()

@@ -327,3 +327,26 @@ waits_running live new_live building new fault w runs fine (inr refused) count b
       subst IsSome (sym build) refl
   | inr want ↦ let both = sym want.1 ∙ busy in absurd (cc)
 ]
+
+-- what is kept out for busy transactions is of the build that runs
+part_busy :
+    (in_order : Bool) (live : LiveValue) (building : BuildingValue) (fault : Fault) → KeepsOut in_order live building fault → (count : ℕ)
+    → fault ≡ Busy count → IsPartOf live building
+part_busy in_order live building fault (inl foreign) count busy = let both = sym foreign.no_build ∙ busy in absurd (cc)
+part_busy in_order live building fault (inr (inl early)) count busy = early.part
+part_busy in_order live building fault (inr (inr left)) count busy = left.part
+
+-- busy transactions are a cause only beside a build that runs
+pub busy_runs :
+    (live new_live : LiveValue) (building new : BuildingValue) (fault : Fault) → RefusesSwitch live building fault new_live new → (count : ℕ)
+    → fault ≡ Busy count → IsSome new_live.state.build
+busy_runs live new_live building new fault (inl out) count busy =
+    let part = part_busy true live building fault out.cause count busy in
+    let build : new_live.state.build ≡ Some part.of.build = ap (λ (s : LiveState). s.build) out.looked.state ∙ part.of.runs in
+    subst IsSome (sym build) refl
+busy_runs live new_live building new fault (inr refused) count busy = elim refused.refused [
+  | inl cause ↦
+      let build : new_live.state.build ≡ Some refused.part.of.build = ap (λ (s : CoreState). s.live.build) cause.1 ∙ refused.part.of.runs in
+      subst IsSome (sym build) refl
+  | inr want ↦ let both = sym want.1 ∙ busy in absurd (cc)
+]

@@ -71,6 +71,11 @@ pub record IsKnown (known credit : Credit) : Type 0 where
   pub taken : credit.taken ≡ known.taken
   pub turns : credit.turns ≡ known.turns
 
+-- a build that knows that credit has it
+abbrev pub HasKnown : Credit → Option Credit → Type 0
+HasKnown known None = ⊥
+HasKnown known (Some credit) = IsKnown known credit
+
 -- a turn took more entries than a switch takes, where more than these waited: then what was taken before is less than twice what waited at first
 pub record TakesMore (old new : Credit) : Type 0 where
   pub first : new.first ≡ old.first

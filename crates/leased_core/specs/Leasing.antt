@@ -6,10 +6,10 @@ use Rattle.spool_ledger.specs.Accounts.{Stake, stake_of}
 use Rattle.spool_ledger.specs.Pools.{PoolValue, with_back}
 use Rattle.run_spool.specs.PagedSpools.{runs_of}
 use Rattle.run_spool.specs.Runs.{pairs_of}
-use Rattle.run_spool.specs.Spools.{stakes_in}
+use Rattle.run_spool.specs.Spools.{IsFullIntact, stakes_in}
 use Rattle.run_spool.specs.declared.choice.SpoolChoice.{SpoolChoice}
 use Rattle.run_spool.specs.declared.choice.SpoolChoice.TheVariants as choice
-use Rattle.prefix_spool.specs.Kinds.{inside, IsFullOfKind}
+use Rattle.prefix_spool.specs.Kinds.{inside, IsFullOfKind, IsIntactOfKind}
 use Rattle.prefix_spool.specs.declared.either.SpoolOfKind.{SpoolOfKind}
 use Rattle.keybytes.specs.declared.fault.Fault.{Fault}
 use Rattle.keybytes.specs.declared.fault.Fault.TheVariants.{Memory}
@@ -39,7 +39,7 @@ spools_of_kinds spools = spools_in (λ spool. runs_of (inside spool)) (λ spool.
 
 -- an event wanted a page, and a spool of its worker was full
 abbrev pub WantedLeasedPage : CoreState → Event → Type 0
-WantedLeasedPage = WantedPage IsFullOfKind (λ spool. runs_of (inside spool)) (λ spool. pairs_of (inside spool).open_run) stake_in
+WantedLeasedPage = WantedPage (IsFullIntact IsFullOfKind IsIntactOfKind (λ spool. runs_of (inside spool))) (λ spool. runs_of (inside spool)) (λ spool. pairs_of (inside spool).open_run) stake_in
 
 -- there is none
 abbrev pub no_spools : SpoolsState

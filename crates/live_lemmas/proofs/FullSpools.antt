@@ -1,5 +1,5 @@
 -- A spool that a worker found full is one of the worker's, and the pairs in it are of pages that were copied for the worker.
-use Rattle.std.proofs.Common.{◌≡◌, ℕ, ◌+◌, ◌*◌, false, List, [], ◌++◌, get_or, length, take, take_all, drop, Option, None, Some, sym, ap, ◌∙◌, subst, arith, inl, inr}
+use Rattle.std.proofs.Common.{◌≡◌, ℕ, ◌+◌, ◌*◌, ◌<◌, false, List, [], ◌++◌, get_or, length, take, take_all, drop, Option, None, Some, sym, ap, ◌∙◌, subst, arith, inl, inr}
 use Rattle.std.proofs.Common.{append_assoc, take-append-drop}
 use Rattle.std.specs.Prelude.{flat_map}
 use Rattle.std.specs.List.{slice_get}
@@ -16,11 +16,13 @@ use Rattle.side_file.specs.Ends.{PutEnd}
 use Rattle.run_maker.specs.FullSpools.{AreSomeOf}
 use Rattle.run_maker.specs.Making.{spec_at}
 use Rattle.run_maker.proofs.FullSpools.{first_of, full_of_more}
+use Rattle.run_maker.proofs.Spoolings.{runs_more}
 use Rattle.run_spool.specs.Spools.{NoPageOnlyIf}
 use Rattle.page_workers.specs.Copies.{images_of}
 use Rattle.page_workers.specs.ImagePairs.{HavePairs}
-use Rattle.page_workers.specs.SpoolValue.{SpoolValue, spool_value, stakes_of}
+use Rattle.page_workers.specs.SpoolValue.{SpoolValue, runs_of, spool_value, stakes_of}
 use Rattle.side_file.specs.Ends.{TakeEnd, after_taking}
+use Rattle.page_workers.specs.Taking.{sealed_images}
 use Rattle.page_workers.specs.declared.turn.Turn.{Turn}
 use Rattle.page_workers.specs.declared.turn.Turn.TheVariants.{Digest, Seal}
 use Rattle.page_workers.specs.Turns.{IsStopped, turn_images}
@@ -41,13 +43,13 @@ use Rattle.building.specs.Keeping.{KeepsLaws}
 use Rattle.live_lemmas.proofs.LoadCauses.{opened_of}
 use Rattle.live_lemmas.proofs.Refusals.{worker_there}
 use Rattle.live_lemmas.proofs.RunsToClose.{run_to_close}
-use Rattle.live_lemmas.proofs.Waits.{begun_is, next_copied, waits}
+use Rattle.live_lemmas.proofs.Waits.{begun_is, next_copied, sealed_are, waits}
 use Rattle.page_workers.proofs.Places.{all_at, at_map, below, map_at, there_is}
 use Rattle.building.specs.BuildingValue.{BuildingValue, WorkValue, worker_state}
 use Rattle.building.specs.Holding.{all_spools, workers_spools}
 use Rattle.building.specs.Rings.{IsWorkerOf, all_sent}
 use Rattle.live_lemmas.specs.Builds.{IsRunning, LiveValue, SeesRing, core_state}
-use Rattle.live_lemmas.specs.FullSpools.{HasRunToClose, WasFull, WorkerWasFull, pairs_put_to, turn_scans}
+use Rattle.live_lemmas.specs.FullSpools.{AreFullSince, HasRunToClose, WasFull, WorkerWasFull, pairs_put_to, sealed_pairs, turn_scans}
 use Rattle.live_lemmas.specs.Rings.{ArePut}
 use Rattle.live_lemmas.proofs.AllImages.{all_own}
 use Rattle.live_lemmas.proofs.CopyPairs.{copies_pairs}
@@ -162,6 +164,31 @@ module _
       subst (λ (state : WorkerState). HasRunToClose turn b log k state spec) (sym (worker_there live building b w run fine put k it sees.there))
       (omega (arith, enough, begun))
 
+  -- and since its last seal it closed full runs alone
+  closed_full :
+      (turn : Turn) (fault : Fault) (after : WorkerValue) (stopped : IsStopped is_full runs open_run stake turn it fault after) (no_page : fault ≡ NoPage) (page_rings : List RingId)
+      → KeepsLaws page_rings it → w.handed ≡ false → (spec : KeySpecValue) → slice_get w.specs (stopped.full its.fine no_page).index ≡ Some spec
+      → AreFullSince (sealed_pairs b log k (worker_at (core_state live building).work k) spec) (runs (stopped.full its.fine no_page).spool)
+  closed_full turn fault after stopped no_page page_rings laws scans spec is =
+      let full = stopped.full its.fine no_page in
+      let i = full.index in
+      let columns = all_at (λ (s : KeySpecValue). s.kinds ≡ kinds) w.specs i spec run.on.columns is in
+      let held = laws.holding its.fine (its.handed ∙ scans) in
+      let less : i < length it.maker.specs = omega (arith, below w.specs i spec is, ap length its.specs_are) in
+      let spec_same : spec_at it.maker.specs i ≡ spec = ap (λ (specs : List KeySpecValue). spec_at specs i) its.specs_are ∙ spec_is w.specs i spec is in
+      let closed = held.closed i less in
+      let by_spec : HavePairs spec (sealed_images it.maker.schema it.intake) closed.pairs =
+      subst (λ (s : KeySpecValue). HavePairs s (sealed_images it.maker.schema it.intake) closed.pairs) spec_same closed.of_sealed in
+      let own : HavePairs spec (sealed_images kinds it.intake) closed.pairs =
+      subst (λ (ks : List Kind). HavePairs spec (sealed_images ks it.intake) closed.pairs) its.schema by_spec in
+      let are = sealed_are kinds log b k sent it.intake (put k sent sent_there) its.taking spec columns closed.pairs own in
+      subst (λ (state : WorkerState). AreFullSince (sealed_pairs b log k state spec) (runs full.spool)) (sym (worker_there live building b w run fine put k it sees.there))
+      (record {
+        earlier = closed.earlier;
+        since_seal = runs_more closed.earlier (get_or (runs_of it.spools) i []) (runs full.spool) closed.since_seal full.wants.closed;
+        as_many = closed.as_many ∙ ap length are;
+      })
+
   pub full_in_build :
       (turn : Turn) (fault : Fault) (after : WorkerValue) → IsStopped is_full runs open_run stake turn it fault after
       → (page_rings : List RingId) → KeepsLaws page_rings it → NoPageOnlyIf (WorkerWasFull is_full runs open_run stake turn (core_state live building) k) fault
@@ -193,6 +220,7 @@ module _
               there = ap (λ (specs : List KeySpecValue). slice_get (stakes_of (all_spools building.workers building.spools)) (k * length specs + full.index)) run.on.specs ∙ all;
               full = full_of_more is_full runs open_run full.pairs (pairs_put_to b index.0 log k) full.spool
                   (of_pages after stopped.same took.0 took.1 full.index index.0 index.1 full.pairs full.given) full.full;
+              closed = closed_full turn fault after stopped no_page page_rings laws scans index.0 index.1;
               wants = has_run turn fault after stopped no_page page_rings laws scans index.0 index.1;
             } in
             subst (λ (o : Option BuildState). OnBuild o (λ x. WasFull is_full runs open_run stake turn x log k state (stakes_of (all_spools building.workers building.spools))))

@@ -7,7 +7,7 @@ use Rattle.run_spool.specs.Spools.{all_pairs}
 use Rattle.run_maker.specs.Making.{MakerValue}
 use Rattle.std.specs.List.{All, slice_get, list_all}
 use Rattle.std.proofs.lemmas.Bool.{and_parts, and_from, eq-eqb, eqb-true}
-use Rattle.std.proofs.lemmas.List.{append_cancel_left, drop-append-le, take-append-le, nil_from_length, append-nil}
+use Rattle.std.proofs.lemmas.List.{append_cancel_left, drop-append-le, take-append-le, take-take, nil_from_length, append-nil}
 use Rattle.std.proofs.lemmas.List.Elements.{All-head, All-tail}
 use Rattle.std.proofs.Math.ListN.{drop_of_length-le}
 use Rattle.std.proofs.lemmas.Option.{same_Some}
@@ -18,7 +18,8 @@ use Rattle.heap_log.specs.declared.record.LogRec.{LogRec}
 use Rattle.heap_table.specs.Images.{ImageValue}
 use Rattle.page_workers.specs.Copies.{IsFor, is_for, images_of}
 use Rattle.page_workers.specs.Holding.{HoldsPairs, HoldsOpen}
-use Rattle.page_workers.specs.Taking.{IsTaking, received_images, unsealed_images}
+use Rattle.page_workers.specs.Taking.{IsTaking, received_images, sealed_images, unsealed_images}
+use Rattle.page_workers.specs.ImagePairs.{HavePairs}
 use Rattle.page_workers.specs.IntakeValue.{IntakeValue}
 use Rattle.page_workers.specs.Work.{next_images}
 use Rattle.page_workers.specs.declared.copied.Copied.{Copied}
@@ -145,6 +146,17 @@ module _
         let same = have_same spec (received_images kinds worker) held.made _ held.have
         (copies_pairs (scanning_of b spec) kinds log (take worker.taken (put_to b k)) (received_images kinds worker) columns received_copies) in
         IsPermutation-sym _ (all_pairs runs ++ begun) (subst (λ (ps : List Pair). IsPermutation ps (all_pairs runs ++ begun)) same held.all)
+
+    -- those that were sealed are the pairs of the first scans for it
+    pub sealed_are :
+        (pairs : List Pair) → HavePairs spec (sealed_images kinds worker) pairs
+        → pairs ≡ flat_map (pairs_at_scan (scanning_of b spec) log) (take worker.sealed (put_to b k))
+    sealed_are pairs have =
+        let scans = take worker.sealed (take worker.taken (put_to b k)) in
+        let copied : AreCopies kinds log scans (sealed_images kinds worker) =
+        copies_take kinds log worker.sealed (take worker.taken (put_to b k)) (received_images kinds worker) received_copies in
+        have_same spec (sealed_images kinds worker) pairs _ have (copies_pairs (scanning_of b spec) kinds log scans (sealed_images kinds worker) columns copied)
+        ∙ ap (flat_map (pairs_at_scan (scanning_of b spec) log)) (take-take worker.sealed worker.taken (put_to b k) taking.sealed_was_taken)
 
     -- how many of them are in no run yet
     pub begun_is :

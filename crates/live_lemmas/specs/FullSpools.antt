@@ -7,7 +7,9 @@ use Rattle.keybytes.specs.declared.fault.Fault.TheVariants.{NoPage}
 use Rattle.keybytes.specs.declared.pair.Pair.{Pair}
 use Rattle.heap_log.specs.declared.record.LogRec.{LogRec}
 use Rattle.spool_ledger.specs.Accounts.{Stake}
+use Rattle.run_spool.specs.Spools.{all_pairs}
 use Rattle.run_maker.specs.FullSpools.{IsFullOf}
+use Rattle.run_maker.specs.Spooling.{HasFullRunsMore}
 use Rattle.page_workers.specs.declared.turn.Turn.{Turn}
 use Rattle.page_workers.specs.declared.turn.Turn.TheVariants.{Digest as TurnDigest, Seal as TurnSeal}
 use Rattle.page_workers.specs.Turns.{least_pairs}
@@ -60,11 +62,22 @@ HasRunToClose turn b log worker state spec =
     let taken = flat_map (pairs_at_scan (scanning_of b spec) log) (turn_scans turn b worker state) in
     least_pairs turn ≤ length (unsealed_pairs b log worker state spec) % 4096 + length taken
 
+-- the pairs of an index that a worker had taken when it last sealed
+abbrev pub sealed_pairs : BuildState → List LogRec → ℕ → WorkerState → KeySpecValue → List Pair
+sealed_pairs b log worker state spec = flat_map (pairs_at_scan (scanning_of b spec) log) (take state.sealed (put_to b worker))
+
+-- each of these runs of a worker that was closed since its last seal has 4,096 pairs, and so has each one of a worker that hasn't sealed; those
+-- before have as many pairs as it had taken by then
+pub record AreFullSince (sealed : List Pair) (runs : List (List Pair)) : Type 0 where
+  pub earlier : List (List Pair)
+  pub since_seal : HasFullRunsMore earlier runs
+  pub as_many : length (all_pairs earlier) ≡ length sealed
+
 module _
     {S : Type 0} (is_full : S → Pair → Type 0) (runs : S → List (List Pair)) (open_run : S → List Pair) (stake : S → Option Stake) where
   -- a spool, with the pool and the quota of that worker's spool for one of the build's indexes, was full of the pairs of the pages that were
-  -- copied for the worker: it held some of them and nothing else, and had no room left for one more of them; and the worker had another run to
-  -- close for that index
+  -- copied for the worker: it held some of them and nothing else, and had no room left for one more of them; its runs are such as
+  -- that worker closes; and the worker had another run to close for that index
   pub record WasFull (turn : Turn) (b : BuildState) (log : List LogRec) (worker : ℕ) (state : WorkerState) (stakes : List (Option Stake)) : Type 0 where
     pub index : ℕ
     pub spec : KeySpecValue
@@ -72,6 +85,7 @@ module _
     pub spool : S
     pub there : slice_get stakes (worker * length b.specs + index) ≡ Some (stake spool)
     pub full : IsFullOf is_full runs open_run (pairs_put_to b spec log worker) spool
+    pub closed : AreFullSince (sealed_pairs b log worker state spec) (runs spool)
     pub wants : HasRunToClose turn b log worker state spec
 
   -- a spool of that worker of the running build was full at its turn

@@ -25,7 +25,7 @@ use Rattle.page_workers.specs.Work.{at_start, next_images, after_digest, after_s
 use Rattle.page_workers.specs.WorkerValue.{IsCounting, IsHolding, holdings}
 use Rattle.page_workers.proofs.Holding.{none_at, short_at}
 use Rattle.page_workers.proofs.ManyPairs.{for_decides, images-append, images_none}
-use Rattle.page_workers.proofs.Taking.{digested_holds, digested_open, sealed_holds, sealed_open}
+use Rattle.page_workers.proofs.Taking.{digested_closed, digested_holds, digested_open, sealed_closed, sealed_holds, sealed_open, start_closed}
 
 -- the images of a build, of a table of these columns, have these columns
 images_columns : (build : ℕ) (kinds : List Kind) (copies : List Copied) → All (λ image. image.schema ≡ kinds) (images_of build kinds copies)
@@ -138,6 +138,12 @@ module _
               rw (is, schema, same i)
               (digested_open (spec_at maker.specs i) n maker.schema intake (get_or (runs_of spools) i []) (get_or maker.begun i []) (get_or (runs_of new_spools) i [])
               (get_or new.begun i []) own.0 counts.taken counts.sealed_was_taken (holds.opened i lt) own.1 (takes i lt own.0 own.1) (short_at new.begun i short));
+          closed = λ i less.
+              let lt : i < length maker.specs = omega (arith, less, ap length specs) in
+              let own = its i lt in
+              rw (is, schema, same i)
+              (digested_closed (spec_at maker.specs i) n maker.schema intake (get_or (runs_of spools) i []) (get_or maker.begun i []) (get_or (runs_of new_spools) i [])
+              (get_or new.begun i []) own.0 counts.taken counts.sealed_was_taken (holds.closed i lt) (takes i lt own.0 own.1));
         }
 
     -- after a seal
@@ -163,6 +169,14 @@ module _
           opened = λ i less.
               let lt : i < length maker.specs = omega (arith, less, ap length specs) in
               rw (is, schema, same i, none i) (sealed_open (spec_at maker.specs i) n maker.schema intake counts.taken);
+          closed = λ i less.
+              let lt : i < length maker.specs = omega (arith, less, ap length specs) in
+              let own = its i lt in
+              let all = (more i lt own.0 own.1).all in
+              rw (is, schema, same i)
+              (sealed_closed (spec_at maker.specs i) n maker.schema intake (get_or (runs_of new_spools) i []) counts.taken
+              (sealed_holds (spec_at maker.specs i) n maker.schema intake (get_or (runs_of spools) i []) (get_or maker.begun i []) (get_or (runs_of new_spools) i [])
+              own.0 (holds.holds i lt) own.1 (rw (none i) at all)));
         }
 
 -- a worker that took nothing counts nothing
@@ -193,4 +207,5 @@ start_keeps intake maker spools earlier many none empty open_none =
       holds = λ i less. rw (images, none_at (runs_of spools) i empty, none_at maker.begun i none)
           (record { made = []; have = refl; all = IsPermutation-refl [] });
       opened = λ i less. rw (unsealed, none_at maker.begun i none) (record { last = []; since_seal = refl; open_run = refl });
+      closed = λ i less. rw (none_at (runs_of spools) i empty) (start_closed (spec_at maker.specs i) maker.schema intake earlier);
     }

@@ -1,25 +1,26 @@
 -- A worker goes on taking what was put for its build.
-use Rattle.std.proofs.Common.{◌≡◌, ℕ, ◌+◌, ◌%◌, ◌<◌, ◌≤◌, true, List, [], ◌∷◌, ◌++◌, length, min, take, drop, append_assoc, append-nil, refl, sym}
+use Rattle.std.proofs.Common.{◌≡◌, ℕ, ◌+◌, ◌%◌, ◌<◌, ◌≤◌, true, List, [], ◌∷◌, ◌++◌, length, min, take, take_all, drop, append_assoc, append-nil, refl, sym}
 use Rattle.std.proofs.Common.{ap, ◌∙◌, subst, arith, length-append, take-append-drop}
 use Rattle.std.specs.Prelude.{IsPermutation}
 use Rattle.std.specs.List.{All}
-use Rattle.std.proofs.lemmas.List.{append_cancel_left, drop-append-le, length-take}
+use Rattle.std.proofs.lemmas.List.{append_cancel_left, drop-append-le, length-take, take-append-le}
 use Rattle.std.proofs.Math.ListN.{drop_of_length-le}
 use Rattle.std.proofs.Math.Nat.{mod-eq_of_lt}
 use Rattle.std.proofs.lemmas.List.Elements.{All-head, All-tail, All-push, All-take, All-drop, All-nil}
-use Rattle.std.proofs.lemmas.List.Sorted.{IsPermutation-append_left, IsPermutation-refl, IsPermutation-trans}
+use Rattle.std.proofs.lemmas.List.Sorted.{IsPermutation-append_left, IsPermutation-refl, IsPermutation-trans, length_permutation}
 use Rattle.keybytes.specs.Keys.{KeySpecValue}
 use Rattle.keybytes.specs.declared.kind.Kind.{Kind}
 use Rattle.keybytes.specs.declared.pair.Pair.{Pair}
 use Rattle.heap_table.specs.Images.{ImageValue}
 use Rattle.run_spool.specs.Spools.{all_pairs}
 use Rattle.run_maker.specs.Spooling.{Adds}
+use Rattle.run_maker.proofs.Spoolings.{no_runs, runs_more}
 use Rattle.page_workers.specs.declared.copied.Copied.{Copied}
 use Rattle.page_workers.specs.Copies.{IsFor, is_for, images_of}
-use Rattle.page_workers.specs.Holding.{HoldsPairs, HoldsOpen}
+use Rattle.page_workers.specs.Holding.{HoldsClosed, HoldsPairs, HoldsOpen}
 use Rattle.page_workers.specs.ImagePairs.{HavePairs}
 use Rattle.side_file.specs.Ends.{TakeEnd}
-use Rattle.page_workers.specs.Taking.{IsTaking, received_images, unsealed_images}
+use Rattle.page_workers.specs.Taking.{IsTaking, received_images, sealed_images, unsealed_images}
 use Rattle.page_workers.specs.Work.{at_start, knowing, next_images, after_digest, after_seal}
 use Rattle.page_workers.specs.IntakeValue.{IntakeValue}
 use Rattle.page_workers.proofs.ManyPairs.{for_decides, have_append, images-append, images_none}
@@ -144,6 +145,20 @@ start_open build kinds spec end before = record {
   open_run = refl;
 }
 
+-- and no run is closed
+pub start_closed :
+    (spec : KeySpecValue) (kinds : List Kind) (worker : IntakeValue) → All (λ copied. copied.build < worker.build) worker.end.received
+    → HoldsClosed spec (sealed_images kinds worker) []
+start_closed spec kinds worker before =
+    let none : sealed_images kinds worker ≡ [] = ap (take worker.sealed) (images_none worker.build kinds worker.end.received before) ∙ take_all worker.sealed [] (omega arith) in
+    record {
+      earlier = [];
+      since_seal = no_runs [] [] refl;
+      pairs = [];
+      of_sealed = subst (λ (images : List ImageValue). HavePairs spec images []) (sym none) refl;
+      as_many = refl;
+    }
+
 module _ (spec : KeySpecValue) (n : ℕ) (kinds : List Kind) (worker : IntakeValue) where
   -- the images that it received, with the next ones behind them
   received_more : received_images kinds (after_digest n kinds worker) ≡ received_images kinds worker ++ next_images n kinds worker
@@ -190,6 +205,42 @@ module _ (spec : KeySpecValue) (n : ℕ) (kinds : List Kind) (worker : IntakeVal
             (have_append spec (unsealed_images kinds worker) (next_images n kinds worker) holds.last made holds.since_seal have);
         open_run = sym (mod-eq_of_lt short) ∙ (adds.count ∙ (ap (λ k. (k + length made) % 4096) holds.open_run
             ∙ (open_more (length holds.last) (length made) ∙ ap (λ k. k % 4096) (sym (length-append holds.last made)))));
+      }
+
+  -- a digest closes full runs alone
+  pub digested_closed :
+      (old_runs : List (List Pair)) (begun : List Pair) (runs : List (List Pair)) (new_begun made : List Pair)
+      → worker.taken ≡ length (received_images kinds worker) → worker.sealed ≤ worker.taken
+      → HoldsClosed spec (sealed_images kinds worker) old_runs → Adds made old_runs begun runs new_begun
+      → HoldsClosed spec (sealed_images kinds (after_digest n kinds worker)) runs
+  digested_closed old_runs begun runs new_begun made taken sealed holds adds =
+      let same : sealed_images kinds (after_digest n kinds worker) ≡ sealed_images kinds worker =
+      ap (take worker.sealed) received_more ∙ take-append-le worker.sealed (received_images kinds worker) (next_images n kinds worker) (omega (arith, taken, sealed)) in
+      record {
+        earlier = holds.earlier;
+        since_seal = runs_more holds.earlier old_runs runs holds.since_seal adds.full_runs;
+        pairs = holds.pairs;
+        of_sealed = subst (λ (images : List ImageValue). HavePairs spec images holds.pairs) (sym same) holds.of_sealed;
+        as_many = holds.as_many;
+      }
+
+  -- after a seal all closed runs are those of before
+  pub sealed_closed :
+      (runs : List (List Pair)) → worker.taken ≡ length (received_images kinds worker)
+      → HoldsPairs spec (received_images kinds (after_seal (after_digest n kinds worker))) runs []
+      → HoldsClosed spec (sealed_images kinds (after_seal (after_digest n kinds worker))) runs
+  sealed_closed runs taken holds =
+      let images = received_images kinds (after_digest n kinds worker) in
+      let long : length images ≡ worker.taken + length (next_images n kinds worker) =
+      omega (arith, taken, ap length received_more, length-append (received_images kinds worker) (next_images n kinds worker)) in
+      let all : sealed_images kinds (after_seal (after_digest n kinds worker)) ≡ images =
+      take_all (worker.taken + length (next_images n kinds worker)) images (omega (arith, long)) in
+      record {
+        earlier = runs;
+        since_seal = no_runs runs runs refl;
+        pairs = holds.made;
+        of_sealed = subst (λ (xs : List ImageValue). HavePairs spec xs holds.made) (sym all) holds.have;
+        as_many = omega (arith, length_permutation holds.made (all_pairs runs ++ []) holds.all, ap length (append-nil (all_pairs runs)));
       }
 
   -- after a seal no pair is in no run

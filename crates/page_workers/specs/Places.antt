@@ -1,5 +1,5 @@
 -- The places of a ring of copies.
-use Rattle.std.specs.Prelude.{◌≡◌, ℕ, ◌+◌, ◌≤◌, length}
+use Rattle.std.specs.Prelude.{◌≡◌, ◌+◌, ◌≤◌, length}
 use Rattle.side_file.specs.Ends.{PutEnd}
 
 module _ {T : Type 0} where

@@ -1,5 +1,5 @@
 -- What a worker has taken of the copies that were put for its build.
-use Rattle.std.specs.Prelude.{◌≡◌, ℕ, ◌≤◌, List, ◌++◌, length, drop}
+use Rattle.std.specs.Prelude.{◌≡◌, ℕ, ◌≤◌, List, ◌++◌, length, drop, take}
 use Rattle.std.specs.List.{All}
 use Rattle.keybytes.specs.declared.kind.Kind.{Kind}
 use Rattle.heap_table.specs.Images.{ImageValue}
@@ -10,6 +10,10 @@ use Rattle.page_workers.specs.IntakeValue.{IntakeValue}
 -- the images of its build that a worker received, of a table of these columns
 abbrev pub received_images : List Kind → IntakeValue → List ImageValue
 received_images kinds worker = images_of worker.build kinds worker.end.received
+
+-- those that it had received when it last sealed
+abbrev pub sealed_images : List Kind → IntakeValue → List ImageValue
+sealed_images kinds worker = take worker.sealed (received_images kinds worker)
 
 -- those that it received since it last sealed
 abbrev pub unsealed_images : List Kind → IntakeValue → List ImageValue

@@ -8,11 +8,11 @@ use Rattle.keybytes.specs.declared.pair.Pair.{Pair}
 use Rattle.heap_table.specs.Images.{ImageValue}
 use Rattle.run_spool.specs.Spools.{AreSorted}
 use Rattle.run_maker.specs.Making.{MakerValue, AreReady, Holdings, spec_at}
-use Rattle.page_workers.specs.Holding.{HoldsPairs, HoldsOpen}
+use Rattle.page_workers.specs.Holding.{HoldsClosed, HoldsPairs, HoldsOpen}
 use Rattle.page_workers.specs.ImagePairs.{HavePairs}
 use Rattle.page_workers.specs.IntakeValue.{IntakeValue}
 use Rattle.page_workers.specs.SpoolValue.{SpoolValue, runs_of, open_runs_of, stakes_of}
-use Rattle.page_workers.specs.Taking.{received_images, unsealed_images}
+use Rattle.page_workers.specs.Taking.{received_images, sealed_images, unsealed_images}
 
 -- its number, how far it is with its ring, its maker, its spools, one for each index, whether these went to the indexes, and the fault
 -- that stopped it
@@ -37,14 +37,15 @@ pub record IsCounting (intake : IntakeValue) (maker : MakerValue) : Type 0 where
   pub taken : intake.taken ≡ length (received_images maker.schema intake)
   pub sealed_was_taken : intake.sealed ≤ intake.taken
 
--- of each index maker and spools hold the pairs of the images of its build that it received; in no run yet are those since the last seal
--- that don't fill one
+-- of each index maker and spools hold the pairs of the images of its build that it received; of those since the last seal each run is full,
+-- and those that don't fill one are in no run yet
 pub record IsHolding (intake : IntakeValue) (maker : MakerValue) (spools : List SpoolValue) : Type 0 where
   pub many : length spools ≡ length maker.specs
   pub ready : AreReady (runs_of spools) (open_runs_of spools)
   pub sorted : All AreSorted (runs_of spools)
   pub holds : (i : ℕ) → i < length maker.specs → HoldsAt i (spec_at maker.specs i) (received_images maker.schema intake) (holdings maker spools)
   pub opened : (i : ℕ) → i < length maker.specs → HoldsOpen (spec_at maker.specs i) (unsealed_images maker.schema intake) (get_or maker.begun i [])
+  pub closed : (i : ℕ) → i < length maker.specs → HoldsClosed (spec_at maker.specs i) (sealed_images maker.schema intake) (get_or (runs_of spools) i [])
 
 -- the pairs of index i of the images of its build that the worker received
 abbrev pub HasReceived : WorkerValue → ℕ → List Pair → Type 0

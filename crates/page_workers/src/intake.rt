@@ -2,7 +2,7 @@ ghost use Rattle.std.specs.Prelude.{◌≡◌, ◌≤◌, ◌⊎◌, ◌+◌, �
 ghost use Rattle.std.specs.Prelude.{IfErr, IfOk, OnOk, OnErr};
 ghost use Rattle.side_file.specs.Ends.{ring_take};
 ghost use Rattle.heap_table.specs.Images.{IsReadable};
-ghost use Rattle.run_spool.specs.Spools.{AreSorted, NoPageOnlyIf};
+ghost use Rattle.run_spool.specs.Spools.{AreSorted, NoneFreed, NoPageOnlyIf};
 ghost use Rattle.run_maker.specs.FullSpools.{HasFullOf};
 ghost use Rattle.run_maker.specs.Making.{AreReady};
 ghost use Rattle.run_maker.specs.Spooling.{MemoryOnlyIf};
@@ -150,6 +150,7 @@ impl Intake {
             (record { runs = map S.runs spools.old; begun = maker.old.begun }) (record { runs = map S.runs spools.new; begun = maker.new.begun })) }
         ensures ready { OnOk result (AreReady (map S.runs spools.new) (map S.open_run spools.new)) }
         ensures sorted { All AreSorted (map S.runs spools.old) → All AreSorted (map S.runs spools.new) }
+        ensures intact { All (NoneFreed S.is_intact S.runs) spools.old → All (NoneFreed S.is_intact S.runs) spools.new }
         ensures stakes { map S.stake spools.new ≡ map S.stake spools.old }
         ensures schema { maker.new.schema ≡ maker.old.schema }
         ensures specs { maker.new.specs ≡ maker.old.specs }
@@ -198,6 +199,7 @@ impl Intake {
         ensures closed { OnOk result (All (λ begun. begun ≡ []) maker.new.begun) }
         ensures ready { OnOk result (AreReady (map S.runs spools.new) (map S.open_run spools.new)) }
         ensures sorted { All AreSorted (map S.runs spools.old) → All AreSorted (map S.runs spools.new) }
+        ensures intact { All (NoneFreed S.is_intact S.runs) spools.old → All (NoneFreed S.is_intact S.runs) spools.new }
         ensures stakes { map S.stake spools.new ≡ map S.stake spools.old }
         ensures schema { maker.new.schema ≡ maker.old.schema }
         ensures specs { maker.new.specs ≡ maker.old.specs }
@@ -242,6 +244,7 @@ impl Intake {
         ensures closed { OnOk result (turn ≡ Turn.Seal → All (λ begun. begun ≡ []) maker.new.begun) }
         ensures ready { OnOk result (AreReady (map S.runs spools.new) (map S.open_run spools.new)) }
         ensures sorted { All AreSorted (map S.runs spools.old) → All AreSorted (map S.runs spools.new) }
+        ensures intact { All (NoneFreed S.is_intact S.runs) spools.old → All (NoneFreed S.is_intact S.runs) spools.new }
         ensures stakes { map S.stake spools.new ≡ map S.stake spools.old }
         ensures schema { maker.new.schema ≡ maker.old.schema }
         ensures specs { maker.new.specs ≡ maker.old.specs }

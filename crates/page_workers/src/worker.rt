@@ -54,7 +54,8 @@ impl<S: Spool> Model for Worker<S> {
 
     ghost Value = { WorkerValue };
 
-    ghost use Rattle.std.specs.Prelude.{◌≡◌, [], map, true, false, None, IfSome};
+    ghost use Rattle.std.specs.Prelude.{◌≡◌, [], All, map, true, false, None, IfSome};
+    ghost use Rattle.run_spool.specs.Spools.{NoneFreed};
     ghost use Rattle.page_workers.specs.SpoolValue.{spool_value};
     ghost use Rattle.page_workers.specs.WorkerValue.{IsCounting, IsHolding, IsShortage};
 
@@ -71,7 +72,8 @@ impl<S: Spool> Model for Worker<S> {
         × (worker.fault ≡ None → IsCounting worker.intake worker.maker)
         × (worker.fault ≡ None → worker.handed ≡ false
         → IsHolding worker.intake worker.maker (map (spool_value S.runs S.open_run S.stake) worker.spools.items))
-        × (worker.handed ≡ true → worker.spools.items ≡ []) };
+        × (worker.handed ≡ true → worker.spools.items ≡ [])
+        × All (NoneFreed S.is_intact S.runs) worker.spools.items };
 }
 
 impl<S: Spool> Worker<S> {

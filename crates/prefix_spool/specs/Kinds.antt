@@ -1,6 +1,6 @@
 -- Spools of either kind.
 use Rattle.keybytes.specs.declared.pair.Pair.{Pair}
-use Rattle.run_spool.specs.PagedSpools.{PagedSpoolValue, IsFullSpool}
+use Rattle.run_spool.specs.PagedSpools.{PagedSpoolValue, IsFullSpool, IsIntact}
 use Rattle.run_spool.specs.PlainPages.{plain_size}
 use Rattle.prefix_spool.specs.PrefixBytes.{prefix_size}
 use Rattle.run_spool.specs.declared.kind.SpoolKind.{SpoolKind}
@@ -17,6 +17,11 @@ inside (Prefix spool) = spool
 abbrev pub IsFullOfKind : SpoolOfKind → Pair → Type 0
 IsFullOfKind (Plain spool) pair = IsFullSpool plain_size spool pair
 IsFullOfKind (Prefix spool) pair = IsFullSpool prefix_size spool pair
+
+-- no pair of its closed runs was freed, as its kind counts the bytes of a page
+abbrev pub IsIntactOfKind : SpoolOfKind → Type 0
+IsIntactOfKind (Plain spool) = IsIntact plain_size spool
+IsIntactOfKind (Prefix spool) = IsIntact prefix_size spool
 
 -- its kind
 abbrev pub kind_of : SpoolOfKind → SpoolKind

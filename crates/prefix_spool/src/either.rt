@@ -17,13 +17,15 @@ impl Spool for SpoolOfKind {
     ghost use Rattle.spool_ledger.specs.Accounts.{IsWhole, stake_of};
     ghost use Rattle.run_spool.specs.Runs.{pairs_of};
     ghost use Rattle.run_spool.specs.PagedSpools.{runs_of, leased_pages};
-    ghost use Rattle.prefix_spool.specs.Kinds.{inside, IsFullOfKind};
+    ghost use Rattle.prefix_spool.specs.Kinds.{inside, IsFullOfKind, IsIntactOfKind};
 
     ghost runs = { λ spool. runs_of (inside spool) };
 
     ghost open_run = { λ spool. pairs_of (inside spool).open_run };
 
     ghost is_full = { IsFullOfKind };
+
+    ghost is_intact = { IsIntactOfKind };
 
     ghost ended = { λ spool. ((inside spool).runs ≡ []) × ((inside spool).open_run ≡ []) × IsWhole (inside spool).account };
 

@@ -80,6 +80,8 @@ impl<S: Spool> Spool for FaultySpool<S> {
 
     ghost is_full = { λ faulty pair. IsFullNow faulty.coming ⊎ S.is_full faulty.spool pair };
 
+    ghost is_intact = { λ faulty. S.is_intact faulty.spool };
+
     ghost ended = { λ faulty. S.ended faulty.spool };
 
     ghost pages = { λ faulty. S.pages faulty.spool };

@@ -1,5 +1,7 @@
+mod Begins
 pub mod KeyedPairs
-mod Replies
+mod LabelNames
+mod Planned
 mod SharedLines
 mod SpecLists
 pub mod Statuses

@@ -1,6 +1,6 @@
 -- What a command does to the table, and what it is answered. A word of this file that ends with a table, an answer and a
 -- table says of the three what stands before a command, what it is answered and what it leaves.
-use Rattle.std.specs.Prelude.{true, ◌≡◌, ◌≢◌, ℕ, zero, suc, false, Vec, List, [], Option, Some, None, Result, Ok, Err, ◌⊎◌}
+use Rattle.std.specs.Prelude.{true, ◌≡◌, ℕ, zero, suc, false, Vec, List, [], Option, Some, None, Result, Ok, Err, ◌⊎◌}
 use Rattle.keybytes.specs.Faults.{RefusedFor}
 use Rattle.keybytes.specs.Rows.{row_refusal}
 use Rattle.keybytes.specs.declared.cell.Cell.{Cell}
@@ -14,7 +14,7 @@ use Rattle.build_events.specs.CoreState.{CoreState, with_heap}
 use Rattle.std.specs.List.{list_any}
 use Rattle.std.specs.declared.alloc.Global.{Global}
 use Rattle.build_events.specs.BuildSteps.{OnBuild}
-use Rattle.build_events.specs.Steps.{Step}
+use Rattle.build_events.specs.Steps.{HasPageCause, Step}
 use Rattle.build_events.specs.declared.event.Event.{Event}
 use Rattle.build_events.specs.declared.event.Event.TheVariants as event
 use Rattle.build_events.specs.declared.plan.Plan.{Plan}
@@ -26,11 +26,11 @@ use Rattle.script.specs.declared.command.Command.TheVariants.{Row, Begin, Insert
 use Rattle.script.specs.declared.command.Command.TheVariants.{Seal, Load, Feed, Apply, Fence, Switch, Abandon, Side, Pairs, Rest}
 use Rattle.script.specs.declared.start.Start.{Start}
 use Rattle.replay.specs.Labels.{named}
-use Rattle.leased_core.specs.Leasing.{EndsBuild, FailsToStart, StartsOver}
+use Rattle.leased_core.specs.Leasing.{EndsBuild, FailsToStart, StartsOver, WantedLeasedPage}
 use Rattle.replay.specs.Limits.{is_refusal}
 use Rattle.replay.specs.Listings.{ListsIndex, ListsRest, ListsSide, ListsShared}
 use Rattle.replay.specs.declared.shared_line.SharedLine.{SharedLine}
-use Rattle.replay.specs.Plans.{IsPlanOf, planning_refusal, specs_refusal}
+use Rattle.replay.specs.Plans.{IsPlanOf, planning_refusal}
 use Rattle.replay.specs.declared.answer.Answer.{Answer}
 use Rattle.replay.specs.declared.answer.Answer.TheVariants as answer
 use Rattle.replay.specs.declared.labels.Labels.{Labels}
@@ -72,9 +72,10 @@ abbrev pub OnTxn : Option ℕ → (ℕ → CoreState → Answer → CoreState �
 OnTxn None GoesOn old given new = Refuses NoSuchTxn old given new
 OnTxn (Some txn) GoesOn old given new = GoesOn txn old given new
 
--- the event happens: the table takes its step, and the reply is the answer
+-- the event happens: the table takes its step, and the reply is the answer; it tells of a missing page only where a spool was full, unless the build
+-- was spoiled before
 abbrev pub Happens : Event → CoreState → Answer → CoreState → Type 0
-Happens asked old given new = (told : Reply) × Step old asked told new × (given ≡ answer_to told)
+Happens asked old given new = (told : Reply) × Step old asked told new × HasPageCause WantedLeasedPage old asked told × (given ≡ answer_to told)
 
 -- a transaction writes the row at the RID and commits
 abbrev pub PutsRow : List Cell → ℕ → CoreState → Rid → CoreState → Type 0
@@ -98,13 +99,6 @@ TakesBack (suc more) old txn new =
     (number : ℕ) × (left : ℕ) × (mid : CoreState)
     × Step old (event.Undo txn) (reply.Undone number left) mid × TakesBack more mid txn new
 
--- a transaction begins; or it has begun, there is no memory for its label, and it is taken back
-abbrev pub BeginsTxn : CoreState → Answer → CoreState → Type 0
-BeginsTxn old given new =
-    Happens event.Begin old given new
-    ⊎ ((txn : ℕ) × (begun : CoreState) × (more : ℕ)
-    × (given ≡ answer.Refused Memory) × Step old event.Begin (reply.Begun txn) begun × TakesBack more begun txn new)
-
 -- a transaction of its own begins and puts the row in, or takes back what it wrote; or none begins
 abbrev pub AddsRow : List Cell → CoreState → Answer → CoreState → Type 0
 AddsRow cells old given new =
@@ -127,11 +121,10 @@ StartsByPlan chosen quota plan old given new =
     ((pages : ℕ) × (given ≡ answer.Number pages) × StartsOver chosen quota plan old (reply.Started pages) new)
     ⊎ ((fault : Fault) × FailsToStart chosen quota plan old fault × Refuses fault old given new)
 
--- a build starts by the plan that is asked for, or a key specification is refused; want of memory aside
+-- a build starts by the plan that is asked for, or there is no memory for the plan
 abbrev pub StartsBuild : SpoolChoice → Start → CoreState → Answer → CoreState → Type 0
 StartsBuild chosen start old given new =
-    ((plan : Plan) × IsPlanOf old.live.heap.schema start plan × StartsByPlan chosen start.quota plan old given new)
-    ⊎ ((fault : Fault) × (fault ≢ Memory → specs_refusal old.live.heap.schema start.specs.items ≡ Some fault) × Refuses fault old given new)
+    ((plan : Plan) × IsPlanOf old.live.heap.schema start plan × StartsByPlan chosen start.quota plan old given new) ⊎ Refuses Memory old given new
 
 -- a switch decides: the build has ended, and no page of its spools is missing; of indexes that it refused lines tell, unless there was no memory for
 -- them; or it is refused
@@ -153,7 +146,7 @@ GivesUp old given new =
 -- the command is carried out, with labels that name these transactions, and spools of the kinds that are chosen
 abbrev pub CarriesOut : Labels → SpoolChoice → Command → CoreState → Answer → CoreState → Type 0
 CarriesOut labels chosen (Row cells) old given new = Unless (row_refusal cells.items) (AddsRow cells.items) old given new
-CarriesOut labels chosen (Begin label) old given new = BeginsTxn old given new
+CarriesOut labels chosen (Begin label) old given new = Happens event.Begin old given new
 CarriesOut labels chosen (Insert label cells) old given new =
     Unless (row_refusal cells.items) (OnTxn (named labels label) (λ txn. Happens (event.Insert txn cells.items))) old given new
 CarriesOut labels chosen (Update label rid cells) old given new =

@@ -25,6 +25,10 @@ IsNoted labels text = IsSome (noted labels text)
 abbrev pub NamesNone : Labels → Type 0
 NamesNone labels = (text : List ℕ) → named labels text ≡ None
 
+-- each label names what it named
+abbrev pub NamesSame : Labels → Labels → Type 0
+NamesSame old new = (text : List ℕ) → named new text ≡ named old text
+
 -- that label names the transaction, or none, and each other one names what it named
 abbrev pub Renames : Labels → List ℕ → Option ℕ → Labels → Type 0
 Renames old label txn new = (text : List ℕ) → named new text ≡ cond (bytes_eq label text) txn (named old text)

@@ -1,8 +1,9 @@
 -- The table of a script with its labels and its status: before the script, after a command, and after all of them.
-use Rattle.std.specs.Prelude.{◌≡◌, ℕ, List, [], ◌∷◌, None, Some, Result, ◌⊎◌, if◌then◌else◌}
+use Rattle.std.specs.Prelude.{◌≡◌, ◌≢◌, ℕ, List, [], ◌∷◌, None, Some, Result, ◌⊎◌, if◌then◌else◌}
 use Rattle.std.specs.List.{list_any}
 use Rattle.keybytes.specs.Faults.{RefusedFor}
 use Rattle.keybytes.specs.declared.fault.Fault.{Fault}
+use Rattle.keybytes.specs.declared.fault.Fault.TheVariants.{Memory}
 use Rattle.heap_table.specs.HeapState.{HeapState, empty_heap}
 use Rattle.heap_table.specs.Limits.{pages_most}
 use Rattle.build_events.specs.CoreState.{CoreState, LiveState, opening}
@@ -16,7 +17,7 @@ use Rattle.script.specs.Scripts.{SpellsScript}
 use Rattle.script.specs.declared.script.Script.{Script}
 use Rattle.script.specs.declared.table.Table.{Table}
 use Rattle.replay.specs.Answers.{CarriesOut, answer_of}
-use Rattle.replay.specs.Labels.{NamesNone, Renames}
+use Rattle.replay.specs.Labels.{NamesNone, NamesSame, Renames}
 use Rattle.leased_core.specs.Leasing.{no_spools}
 use Rattle.replay.specs.Limits.{is_refusal, table_refusal}
 use Rattle.replay.specs.declared.answer.Answer.{Answer}
@@ -57,10 +58,15 @@ NamesBegun old label given new =
     ((txn : ℕ) × (given ≡ answer.Number txn) × Renames old label (Some txn) new)
     ⊎ ((fault : Fault) × (given ≡ answer.Refused fault) × Renames old label None new)
 
+-- a begin that wants memory leaves each label with what it named
+abbrev pub NotesBegin : Labels → List ℕ → Answer → Labels → Type 0
+NotesBegin old label given new =
+    ((given ≡ answer.Refused Memory) × NamesSame old new) ⊎ ((given ≢ answer.Refused Memory) × NamesBegun old label given new)
+
 -- what a command leaves of the labels
 abbrev pub NotesCommand : Labels → Command → Answer → Labels → Type 0
 NotesCommand old (Row cells) given new = new ≡ old
-NotesCommand old (Begin label) given new = NamesBegun old label given new
+NotesCommand old (Begin label) given new = NotesBegin old label given new
 NotesCommand old (Insert label cells) given new = new ≡ old
 NotesCommand old (Update label rid cells) given new = new ≡ old
 NotesCommand old (Delete label rid) given new = new ≡ old

@@ -1,5 +1,5 @@
 ghost use Rattle.std.specs.Prelude.{◌≡◌, IfOk, IfErr, OnOk, Some, None};
-ghost use Rattle.replay.specs.Labels.{IsNoted, NamesNone, Renames, named};
+ghost use Rattle.replay.specs.Labels.{IsNoted, NamesNone, NamesSame, Renames, named};
 
 use keybytes::Fault;
 use script::Label;
@@ -39,8 +39,26 @@ impl Labels {
         ensures noted { OnOk result (IsNoted self.new label.now) }
         ensures memory { IfErr result (λ fault. fault ≡ Fault.Memory) }
     {
+        self.unname(label);
+        self.make_room(label)
+    }
+
+    /// Has the label name none. Takes no memory.
+    pub fn unname(&mut self, label: &Label)
+        ensures { Renames self.old label.now None self.new }
+    {
         if let Some(txn) = self.txns.get_mut(label.as_str()) {
             *txn = None;
+        }
+    }
+
+    /// Makes room for what [`Labels::name`] says. Each label names what it named.
+    pub fn make_room(&mut self, label: &Label) -> Result<(), Fault>
+        ensures same { NamesSame self.old self.new }
+        ensures noted { OnOk result (IsNoted self.new label.now) }
+        ensures memory { IfErr result (λ fault. fault ≡ Fault.Memory) }
+    {
+        if self.txns.get(label.as_str()).is_some() {
             return Ok(());
         }
         let text = label.to_string()?;
@@ -48,7 +66,7 @@ impl Labels {
         Ok(())
     }
 
-    /// Has the label name the transaction. Takes no memory, since [`Labels::forget`] has made room.
+    /// Has the label name the transaction. Takes no memory, since [`Labels::make_room`] has made room.
     pub fn name(&mut self, label: &Label, txn: u64)
         requires { IsNoted self.old label.now }
         ensures { Renames self.old label.now (Some txn) self.new }

@@ -1,8 +1,10 @@
 //! What is said of a script as a whole.
-ghost use Rattle.std.specs.Prelude.{◌≡◌, ◌⊎◌, ℕ, IfSome};
+ghost use Rattle.std.specs.Prelude.{◌≡◌, ◌⊎◌, ℕ, IfOk, IfSome, MatchResult};
 ghost use Rattle.script.specs.RaceScripts.{AreGoodOfRace};
 ghost use Rattle.replay.specs.Checks.{IsGood};
+ghost use Rattle.replay.specs.Sessions.{number_of};
 
+use crate::output_failed::OutputFailed;
 use crate::status::Status;
 use script::{RaceScript, Script, read_text};
 use std::alloc::Global;
@@ -47,7 +49,7 @@ fn check_text<W: Write + Drop, E: Write + Drop>(alloc: Global, text: &[u8], out:
     ensures good { result ≡ 0 → IsGood text.now }
 {
     match Script::check(alloc, text) {
-        Ok(count) => approve(count, out),
+        Ok(count) => exit_status(approve(count, out)),
         Err(error) if error.is_of_race() => check_race_text(alloc, text, out, err),
         Err(error) => refuse(error, err),
     }
@@ -63,18 +65,28 @@ fn check_race_text<W: Write + Drop, E: Write + Drop>(
     ensures good { result ≡ 0 → (count : ℕ) × AreGoodOfRace text.now count }
 {
     match RaceScript::check(alloc, text) {
-        Ok(count) => approve(count, out),
+        Ok(count) => exit_status(approve(count, out)),
         Err(error) => refuse(error, err),
     }
 }
 
-/// Says that so many records are good, and answers the exit status.
-fn approve<W: Write + Drop>(count: usize, mut out: W) -> u8
-    ensures { (result ≡ 0) ⊎ (result ≡ 2) }
+/// Says that so many records are good.
+fn approve<W: Write + Drop>(count: usize, mut out: W) -> Result<Status, OutputFailed>
+    ensures { IfOk result (λ status. status ≡ Status.Done) }
 {
     match write_approval(count, &mut out) {
-        Ok(()) => Status::Done as u8,
-        Err(_) => Status::Failed as u8,
+        Ok(()) => Ok(Status::Done),
+        Err(_) => Err(OutputFailed),
+    }
+}
+
+/// What was to be said, as an exit status: 2 where it couldn't be written.
+fn exit_status(said: Result<Status, OutputFailed>) -> u8
+    ensures { MatchResult said (λ status. result ≡ number_of status) (λ _. result ≡ 2) }
+{
+    match said {
+        Ok(status) => status as u8,
+        Err(OutputFailed) => Status::Failed as u8,
     }
 }
 

@@ -1,8 +1,9 @@
 //! A script's session on a table.
-ghost use Rattle.std.specs.Prelude.{◌≡◌, ◌≢◌, [], map, Some, None, OnOk, IfOk, IfErr};
+ghost use Rattle.std.specs.Prelude.{◌≡◌, [], map, Some, None, OnOk, IfOk, IfErr};
 ghost use Rattle.std.specs.List.{list_any};
 ghost use Rattle.keybytes.specs.Faults.{RefusedFor};
-ghost use Rattle.replay.specs.Answers.{Happens, answer_of};
+ghost use Rattle.heap_table.specs.HeapState.{begin_refusal};
+ghost use Rattle.replay.specs.Answers.{Happens, answer_of, answer_to};
 ghost use Rattle.replay.specs.Sessions.{state_of, Answers, IsNew, Runs};
 ghost use Rattle.leased_core.specs.Leasing.{KeepsBuild};
 ghost use Rattle.replay.specs.Limits.{is_refusal};
@@ -119,8 +120,7 @@ impl Session {
         }
     }
 
-    /// Begins a transaction that the label names; where that is refused, it names none. Only the begin tells whether it is refused for another reason than
-    /// want of memory for the label: so where that is wanting the transaction is taken back.
+    /// Begins a transaction that the label names; where that is refused, it names none. Want of memory changes nothing.
     fn begin_named<T: TableRings>(
         &mut self,
         leased: &mut LeasedCore<T>,
@@ -128,18 +128,28 @@ impl Session {
     ) -> Result<Answer, Fault>
         ensures { Answers (state_of leased.old self.old) (Command.Begin label.now) result (state_of leased.new self.new) }
     {
-        let noted = self.labels.forget(label);
-        let begun = begin(leased)?;
-        match noted {
-            Ok(()) => {
-                self.labels.name(label, begun);
-                Ok(Answer::Number { number: begun })
-            }
+        match leased.core().live().check_begin() {
+            Ok(()) => self.begin_free(leased, label),
             Err(fault) => {
-                take_back(leased, begun);
+                self.labels.unname(label);
                 Err(fault)
             }
         }
+    }
+
+    /// The same, where nothing refuses it.
+    fn begin_free<T: TableRings>(
+        &mut self,
+        leased: &mut LeasedCore<T>,
+        label: &Label,
+    ) -> Result<Answer, Fault>
+        requires { begin_refusal leased.old.live.heap ≡ None }
+        ensures { Answers (state_of leased.old self.old) (Command.Begin label.now) result (state_of leased.new self.new) }
+    {
+        self.labels.make_room(label)?;
+        let begun = begin(leased)?;
+        self.labels.name(label, begun);
+        Ok(Answer::Number { number: begun })
     }
 
     fn insert_named<T: TableRings>(
@@ -253,7 +263,8 @@ impl Session {
         specs: Vec<Spec>,
     ) -> Result<Vec<KeySpec>, Fault>
         ensures ok { IfOk result (λ made. made.items ≡ map (key_spec_of core.now.live.heap.schema) specs.items) }
-        ensures refused { IfErr result (λ fault. fault ≢ Fault.Memory → specs_refusal core.now.live.heap.schema specs.items ≡ Some fault) }
+        ensures accepted { OnOk result (specs_refusal core.now.live.heap.schema specs.items ≡ None) }
+        ensures refused { IfErr result (RefusedFor (specs_refusal core.now.live.heap.schema specs.items)) }
     {
         let schema = core.live().heap().schema();
         key_specs(self.alloc, schema, specs)
@@ -364,12 +375,20 @@ fn step<T: TableRings>(leased: &mut LeasedCore<T>, event: Event) -> Result<Answe
     requires { KeepsBuild event }
     ensures { Happens event leased.old (answer_of result) leased.new }
 {
-    Ok(match leased.step(event) {
+    let reply = leased.step(event);
+    told(reply)
+}
+
+/// What a reply is answered. Behind a build no leased page is missing.
+fn told(reply: Reply) -> Result<Answer, Fault>
+    ensures { answer_of result ≡ answer_to reply }
+{
+    Ok(match reply {
         Reply::Begun { txn } => Answer::Number { number: txn },
         Reply::Written { number, rid } => Answer::Written { number, rid },
         Reply::Undone { number, left } => Answer::Undone { number, left },
-        Reply::Scanned { page } => Answer::Number {
-            number: u64::from(page),
+        Reply::Started { pages: number } | Reply::Scanned { page: number } => Answer::Number {
+            number: u64::from(number),
         },
         Reply::Committed { number: count }
         | Reply::Digested { images: count }
@@ -379,9 +398,14 @@ fn step<T: TableRings>(leased: &mut LeasedCore<T>, event: Event) -> Result<Answe
         | Reply::Applied { entries: count } => Answer::Number {
             number: count as u64,
         },
+        Reply::Switched { number, verdicts } => Answer::Switched {
+            number,
+            verdicts,
+            pages: 0,
+        },
         Reply::FenceSet => Answer::Done,
+        Reply::Abandoned => Answer::Abandoned { pages: 0 },
         Reply::Refused { fault } => return Err(fault),
-        _ => unreachable!(),
     })
 }
 

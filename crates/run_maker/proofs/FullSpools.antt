@@ -1,11 +1,11 @@
 -- A spool that is full of pairs that were given for it.
-use Rattle.std.proofs.Common.{◌≡◌, ◌<◌, ◌≤◌, ◌+◌, get_or, ℕ, List, [], ◌∷◌, ◌++◌, append_assoc, append-nil, length, length-append, reverse, set, Some, sym, ap, ◌∙◌, subst, arith}
+use Rattle.std.proofs.Common.{All, ◌≡◌, ◌<◌, ◌≤◌, ◌+◌, get_or, ℕ, List, [], ◌∷◌, ◌++◌, append_assoc, append-nil, length, length-append, reverse, set, Some, sym, ap, ◌∙◌, subst, arith}
 use Rattle.std.specs.Prelude.{IsPermutation}
 use Rattle.std.proofs.lemmas.List.{get_or-set_same, length-set, reverse-append, reverse-reverse}
 use Rattle.std.proofs.lemmas.List.Sorted.{IsPermutation-append_left, IsPermutation-append_right, IsPermutation-refl, IsPermutation-sym, IsPermutation-trans, length_permutation}
-use Rattle.std.proofs.lemmas.Option.{slice_get-get_or, slice_get_within}
+use Rattle.std.proofs.lemmas.Option.{get_or_from_slice_get, slice_get-get_or, slice_get_within}
 use Rattle.keybytes.specs.declared.pair.Pair.{Pair}
-use Rattle.run_spool.specs.Spools.{all_pairs}
+use Rattle.run_spool.specs.Spools.{IsFullIntact, NoneFreed, all_pairs}
 use Rattle.run_maker.specs.FullSpools.{AreSomeOf, HasFullOf, IsFullOf, WantsRun}
 use Rattle.run_maker.specs.Spooling.{HasFullRunsMore}
 use Rattle.run_maker.proofs.Spoolings.{no_runs, runs_more}
@@ -76,6 +76,25 @@ module _ {S : Type 0} (is_full : S → Pair → Type 0) (runs : S → List (List
   -- the pairs are some of more
   pub full_of_more : (pairs more : List Pair) (spool : S) → AreSomeOf pairs more → IsFullOf is_full runs open_run pairs spool → IsFullOf is_full runs open_run more spool
   full_of_more pairs more spool some is = record { pair = is.pair; held = some_of_some _ pairs more is.held some; full = is.full }
+
+  -- and no pair of it was freed, as of none of them
+  pub full_intact :
+      (is_intact : S → Type 0) (least : ℕ) (old : List (List (List Pair))) (given : ℕ → List Pair → Type 0) (spools : List S)
+      → All (NoneFreed is_intact runs) spools → HasFullOf is_full runs open_run least old given spools
+      → HasFullOf (IsFullIntact is_full is_intact runs) runs open_run least old given spools
+  full_intact is_intact least old given spools none has =
+      let within = slice_get_within spools has.index has.spool has.there in
+      let free : NoneFreed is_intact runs has.spool =
+      subst (NoneFreed is_intact runs) (get_or_from_slice_get spools has.index has.spool has.spool has.there) (none has.index has.spool within) in
+      record {
+        index = has.index;
+        spool = has.spool;
+        there = has.there;
+        pairs = has.pairs;
+        given = has.given;
+        full = record { pair = has.full.pair; held = has.full.held; full = (has.full.full, free) };
+        wants = has.wants;
+      }
 
   -- so it is where what is given for an index is a part of what is given in another way, and only full runs were closed before
   pub full_given :

@@ -8,13 +8,22 @@ use Rattle.std.proofs.lemmas.List.Sorted.{IsPermutation-append_left, IsPermutati
 use Rattle.std.proofs.lemmas.Grind.{flat_map-append}
 use Rattle.keybytes.specs.Pairs.{pair_cmp}
 use Rattle.keybytes.specs.declared.pair.Pair.{Pair}
-use Rattle.run_spool.specs.Spools.{AreSorted, all_pairs, with_closed_run}
+use Rattle.run_spool.specs.Spools.{AreSorted, NoneFreed, all_pairs, with_closed_run}
 use Rattle.run_maker.specs.Spooling.{HasFullRunsMore, Spooled, Adds}
 
 -- a run in order more
 pub closed_sorted : (runs : List (List Pair)) (run : List Pair) → IsSorted pair_cmp run → AreSorted runs → AreSorted (with_closed_run runs run)
 closed_sorted runs [] up all = all
 closed_sorted runs (first ∷ run) up all = All-push (λ r. IsSorted pair_cmp r) runs (first ∷ run) all up
+
+-- no pair is freed of a spool with the same runs
+pub still_intact :
+    {S : Type 0} (is_intact : S → Type 0) (runs : S → List (List Pair)) (old new : S) → runs new ≡ runs old → (is_intact old → is_intact new)
+    → NoneFreed is_intact runs old → NoneFreed is_intact runs new
+still_intact is_intact runs old new same keeps free = elim free [
+  | inl none ↦ inl (same ∙ none)
+  | inr intact ↦ inr (keeps intact)
+]
 
 -- a run more has its pairs more
 pub all_closed : (runs : List (List Pair)) (run : List Pair) → all_pairs (with_closed_run runs run) ≡ all_pairs runs ++ run

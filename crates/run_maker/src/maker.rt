@@ -1,5 +1,5 @@
 ghost use Rattle.std.specs.Prelude.{◌≡◌, ◌<◌, ◌⊎◌, [], All, IfOk, IfErr, OnOk, OnErr, map, length, true, false};
-ghost use Rattle.run_spool.specs.Spools.{AreSorted, NoPageOnlyIf};
+ghost use Rattle.run_spool.specs.Spools.{AreSorted, NoneFreed, NoPageOnlyIf};
 ghost use Rattle.run_maker.specs.FullSpools.{HasFullOf};
 ghost use Rattle.run_maker.specs.Making.{AreHeld, AreHeldWithCopy, AreReady, Takes, TakesPart, Seals};
 ghost use Rattle.run_maker.specs.Spooling.{MemoryOnlyIf};
@@ -92,6 +92,7 @@ impl Maker {
             (record { runs = map S.runs spools.old; begun = self.old.begun }) (record { runs = map S.runs spools.new; begun = self.new.begun })) }
         ensures ready { OnOk result (AreReady (map S.runs spools.new) (map S.open_run spools.new)) }
         ensures sorted { All AreSorted (map S.runs spools.old) → All AreSorted (map S.runs spools.new) }
+        ensures intact { All (NoneFreed S.is_intact S.runs) spools.old → All (NoneFreed S.is_intact S.runs) spools.new }
         ensures stakes { map S.stake spools.new ≡ map S.stake spools.old }
         ensures schema { self.new.schema ≡ self.old.schema }
         ensures specs { self.new.specs ≡ self.old.specs }
@@ -119,6 +120,7 @@ impl Maker {
             (record { runs = map S.runs spools.old; begun = self.old.begun }) (record { runs = map S.runs spools.new; begun = self.new.begun })) }
         ensures ready { OnOk result (AreReady (map S.runs spools.new) (map S.open_run spools.new)) }
         ensures sorted { All AreSorted (map S.runs spools.old) → All AreSorted (map S.runs spools.new) }
+        ensures intact { All (NoneFreed S.is_intact S.runs) spools.old → All (NoneFreed S.is_intact S.runs) spools.new }
         ensures stakes { map S.stake spools.new ≡ map S.stake spools.old }
         ensures schema { self.new.schema ≡ self.old.schema }
         ensures specs { self.new.specs ≡ self.old.specs }
@@ -148,6 +150,7 @@ impl Maker {
         ensures none_open { OnOk result (All (λ begun. begun ≡ []) self.new.begun) }
         ensures ready { OnOk result (AreReady (map S.runs spools.new) (map S.open_run spools.new)) }
         ensures sorted { All AreSorted (map S.runs spools.old) → All AreSorted (map S.runs spools.new) }
+        ensures intact { All (NoneFreed S.is_intact S.runs) spools.old → All (NoneFreed S.is_intact S.runs) spools.new }
         ensures stakes { map S.stake spools.new ≡ map S.stake spools.old }
         ensures schema { self.new.schema ≡ self.old.schema }
         ensures specs { self.new.specs ≡ self.old.specs }
@@ -170,6 +173,7 @@ impl Maker {
         ensures none_open { OnOk result (All (λ begun. begun ≡ []) self.new.begun) }
         ensures ready { OnOk result (AreReady (map S.runs spools.new) (map S.open_run spools.new)) }
         ensures sorted { All AreSorted (map S.runs spools.old) → All AreSorted (map S.runs spools.new) }
+        ensures intact { All (NoneFreed S.is_intact S.runs) spools.old → All (NoneFreed S.is_intact S.runs) spools.new }
         ensures stakes { map S.stake spools.new ≡ map S.stake spools.old }
         ensures schema { self.new.schema ≡ self.old.schema }
         ensures specs { self.new.specs ≡ self.old.specs }

@@ -1,5 +1,5 @@
 ghost use Rattle.std.specs.Prelude.{◌≡◌, ◌<◌, ◌≤◌, ◌+◌, ◌⊎◌, ◌↔◌, [], ◌∷◌, ◌++◌, IfErr, OnOk, OnErr, IsTrue, length};
-ghost use Rattle.run_spool.specs.Spools.{NoneEmpty, AreSorted, NoPageOnlyIf, all_pairs};
+ghost use Rattle.run_spool.specs.Spools.{NoneEmpty, AreSorted, NoneFreed, NoPageOnlyIf, all_pairs};
 ghost use Rattle.run_maker.specs.FullSpools.{IsFullOf};
 ghost use Rattle.run_maker.specs.Spooling.{Spooled, Adds, MemoryOnlyIf};
 
@@ -65,6 +65,7 @@ impl OpenRun {
         ensures added { OnOk result (Adds (pair ∷ []) (S.runs spool.old) self.old (S.runs spool.new) self.new) }
         ensures none_empty { NoneEmpty (S.runs spool.new) }
         ensures sorted { AreSorted (S.runs spool.old) → AreSorted (S.runs spool.new) }
+        ensures intact { NoneFreed S.is_intact S.runs spool.old → NoneFreed S.is_intact S.runs spool.new }
         ensures open_run { OnOk result (S.open_run spool.new ≡ []) }
         ensures short { length self.new < 4096 }
         ensures stake { S.stake spool.new ≡ S.stake spool.old }
@@ -95,6 +96,7 @@ impl OpenRun {
         ensures left { OnOk result (self.new ≡ []) }
         ensures none_empty { NoneEmpty (S.runs spool.new) }
         ensures sorted { AreSorted (S.runs spool.old) → AreSorted (S.runs spool.new) }
+        ensures intact { NoneFreed S.is_intact S.runs spool.old → NoneFreed S.is_intact S.runs spool.new }
         ensures open_run { OnOk result (S.open_run spool.new ≡ []) }
         ensures stake { S.stake spool.new ≡ S.stake spool.old }
         ensures no_page { IfErr result (λ fault. fault ≡ Fault.NoPage) }

@@ -3,7 +3,7 @@ ghost use Rattle.std.specs.Prelude.{◌≡◌, ◌≤◌, ◌+◌, ◌⊎◌, []
 ghost use Rattle.std.specs.Option.{option_to_list};
 ghost use Rattle.keybytes.specs.Cells.{fits};
 ghost use Rattle.keybytes.specs.Pairs.{pair_with};
-ghost use Rattle.run_spool.specs.Spools.{NoneEmpty, AreSorted, NoPageOnlyIf, all_pairs};
+ghost use Rattle.run_spool.specs.Spools.{NoneEmpty, AreSorted, NoneFreed, NoPageOnlyIf, all_pairs};
 ghost use Rattle.run_maker.specs.FullSpools.{HasFullOf, IsFullOf};
 ghost use Rattle.run_maker.specs.Spooling.{Adds, MemoryOnlyIf};
 ghost use Rattle.run_maker.specs.Making.{AreReady, TakesRow, TakesRowPart, AreHeldWithRow};
@@ -29,6 +29,7 @@ fn add_key<S: Spool, Q: RunSort>(
         (S.runs spool.new) begun.new) }
     ensures none_empty { NoneEmpty (S.runs spool.new) }
     ensures sorted { AreSorted (S.runs spool.old) → AreSorted (S.runs spool.new) }
+    ensures intact { NoneFreed S.is_intact S.runs spool.old → NoneFreed S.is_intact S.runs spool.new }
     ensures open_run { OnOk result (S.open_run spool.new ≡ []) }
     ensures stake { S.stake spool.new ≡ S.stake spool.old }
     ensures fault { IfErr result (λ fault. (fault ≡ Fault.NoPage) ⊎ (fault ≡ Fault.Memory)) }
@@ -63,6 +64,7 @@ pub(crate) fn add_row<S: Spool, Q: RunSort>(
         (record { runs = map S.runs spools.old; begun = begun.old }) (record { runs = map S.runs spools.new; begun = begun.new })) }
     ensures ready { OnOk result (AreReady (map S.runs spools.new) (map S.open_run spools.new)) }
     ensures sorted { All AreSorted (map S.runs spools.old) → All AreSorted (map S.runs spools.new) }
+    ensures intact { All (NoneFreed S.is_intact S.runs) spools.old → All (NoneFreed S.is_intact S.runs) spools.new }
     ensures stakes { map S.stake spools.new ≡ map S.stake spools.old }
     ensures fault { IfErr result (λ fault. (fault ≡ Fault.NoPage) ⊎ (fault ≡ Fault.Memory)) }
     ensures full { IfErr result (NoPageOnlyIf (HasFullOf S.is_full S.runs S.open_run 4096 (map S.runs spools.old)

@@ -1,5 +1,5 @@
 ghost use Rattle.std.specs.Prelude.{◌≡◌, [], All, IfErr, OnOk, OnErr, map, length};
-ghost use Rattle.run_spool.specs.Spools.{AreSorted};
+ghost use Rattle.run_spool.specs.Spools.{AreSorted, NoneFreed};
 ghost use Rattle.run_maker.specs.FullSpools.{HasFullOf};
 ghost use Rattle.run_maker.specs.Making.{AreHeld, AreReady, Seals};
 
@@ -20,6 +20,7 @@ pub(crate) fn close_all<S: Spool, Q: RunSort>(
     ensures none_open { OnOk result (All (λ begun. begun ≡ []) begun.new) }
     ensures ready { OnOk result (AreReady (map S.runs spools.new) (map S.open_run spools.new)) }
     ensures sorted { All AreSorted (map S.runs spools.old) → All AreSorted (map S.runs spools.new) }
+    ensures intact { All (NoneFreed S.is_intact S.runs) spools.old → All (NoneFreed S.is_intact S.runs) spools.new }
     ensures stakes { map S.stake spools.new ≡ map S.stake spools.old }
     ensures no_page { IfErr result (λ fault. fault ≡ Fault.NoPage) }
     ensures full { OnErr result (HasFullOf S.is_full S.runs S.open_run 1 (map S.runs spools.old)

@@ -1,7 +1,7 @@
 ghost use Rattle.std.specs.Prelude.{◌≡◌, ◌<◌, ◌⊎◌, ◌++◌, [], IsPermutation, IfErr, OnOk, OnErr, length};
 ghost use Rattle.std.specs.List.Sorted.{IsSorted};
 ghost use Rattle.keybytes.specs.Pairs.{pair_cmp};
-ghost use Rattle.run_spool.specs.Spools.{NoneEmpty, AreSorted, all_pairs};
+ghost use Rattle.run_spool.specs.Spools.{NoneEmpty, NoneFreed, AreSorted, all_pairs};
 ghost use Rattle.run_maker.specs.FullSpools.{IsFullOf};
 ghost use Rattle.run_maker.specs.Spooling.{Spooled};
 
@@ -32,6 +32,7 @@ pub(crate) fn spool_run<S: Spool, Q: RunSort>(
     ensures spooled { OnOk result (Spooled pairs.old.items (S.runs spool.old) (S.runs spool.new)) }
     ensures none_empty { NoneEmpty (S.runs spool.new) }
     ensures sorted { AreSorted (S.runs spool.old) → AreSorted (S.runs spool.new) }
+    ensures intact { NoneFreed S.is_intact S.runs spool.old → NoneFreed S.is_intact S.runs spool.new }
     ensures left { OnOk result (pairs.new.items ≡ []) }
     ensures open_run { OnOk result (S.open_run spool.new ≡ []) }
     ensures runs { OnErr result (S.runs spool.new ≡ S.runs spool.old) }

@@ -1,6 +1,7 @@
 pub mod Chains
 pub mod Closings
 pub mod EachSpool
+pub mod Filled
 pub mod Frames
 pub mod Marked
 pub mod PairRuns

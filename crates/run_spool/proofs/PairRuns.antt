@@ -1,12 +1,12 @@
 -- The runs of a plain spool, as lists of pairs.
-use Rattle.std.proofs.Common.{◌≡◌, ℕ, ◌<◌, List, [], ◌∷◌, ◌++◌, length, get_or, set, drop, refl, sym, ap, ◌∙◌, arith}
+use Rattle.std.proofs.Common.{◌≡◌, ℕ, ◌<◌, List, [], ◌∷◌, ◌++◌, length, get_or, set, drop, refl, sym, ap, ◌∙◌, subst, arith, ◌⊎◌, inl, inr}
 use Rattle.std.specs.Prelude.{map}
 use Rattle.std.specs.List.{All}
 use Rattle.std.proofs.Math.ListN.{get_or-map}
 use Rattle.std.proofs.lemmas.List.{length-map, length-append, map-append, map-set}
-use Rattle.std.proofs.lemmas.List.Elements.{All-head}
+use Rattle.std.proofs.lemmas.List.Elements.{All-head, All-nil, All-push}
 use Rattle.keybytes.specs.declared.pair.Pair.{Pair}
-use Rattle.run_spool.specs.Pages.{PageValue}
+use Rattle.run_spool.specs.Pages.{IsPacked, PageValue}
 use Rattle.run_spool.specs.Runs.{pairs_of, without_pairs, HasPairs}
 use Rattle.run_spool.specs.Spools.{NoneEmpty, with_closed_run}
 use Rattle.run_spool.proofs.RunSteps.{pairs_without}
@@ -45,3 +45,18 @@ closed_pairs runs (p ∷ ps) each =
     let one : 0 < length p.pairs = All-head HasPairs p ps each in
     map-append pairs_of runs ((p ∷ ps) ∷ [])
     ∙ sym (closed_some (map pairs_of runs) (pairs_of (p ∷ ps)) (omega (arith, length-append p.pairs (pairs_of ps))))
+
+with_one : (size : List ℕ → Pair → ℕ) (runs : List (List PageValue)) (run : List PageValue) → All (IsPacked size) run
+    → All (All (IsPacked size)) runs → All (All (IsPacked size)) (with_closed_run runs run)
+with_one size runs [] packed before = before
+with_one size runs (page ∷ run) packed before = All-push (All (IsPacked size)) runs (page ∷ run) before packed
+
+-- the pages of the open run are packed, so that no pair is freed of the runs with it where none was before
+pub closed_intact : (size : List ℕ → Pair → ℕ) (runs : List (List PageValue)) (run : List PageValue) → All (IsPacked size) run
+    → (map pairs_of runs ≡ []) ⊎ All (All (IsPacked size)) runs → All (All (IsPacked size)) (with_closed_run runs run)
+closed_intact size runs run packed free =
+    let before : All (All (IsPacked size)) runs = elim free [
+      | inl none ↦ subst (All (All (IsPacked size))) (sym (no_runs runs none)) (All-nil (All (IsPacked size)))
+      | inr all ↦ all
+    ] in
+    with_one size runs run packed before

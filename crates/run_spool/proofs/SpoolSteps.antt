@@ -9,10 +9,11 @@ use Rattle.std.proofs.lemmas.List.Sums.{sum_by-cons, sum_by-append, sum_by-set}
 use Rattle.spool_ledger.specs.Accounts.{AccountValue, with_free}
 use Rattle.keybytes.specs.declared.pair.Pair.{Pair}
 use Rattle.run_spool.specs.Pages.{PageValue, no_page, last_key, size_on, page_with, with_pair, pairs_size, IsPacked}
-use Rattle.run_spool.specs.Runs.{pairs_of, last_of, on_last, HasPairs, without_pairs}
+use Rattle.run_spool.specs.Runs.{pairs_of, last_of, on_last, HasPairs, IsFilled, without_pairs}
 use Rattle.run_spool.specs.PagedSpools.{PagedSpoolValue, with_freed, without_runs, IsSpool, run_pages}
 use Rattle.run_spool.specs.Spools.{NoneEmpty}
-use Rattle.run_spool.proofs.Chains.{count_append, count_one, count_last}
+use Rattle.run_spool.proofs.Chains.{count_append, count_one, count_last, same_last}
+use Rattle.run_spool.proofs.Filled.{filled_freed, filled_grown, filled_more}
 use Rattle.run_spool.proofs.RunSteps.{each_without, fewer_pages, without_all, given_more}
 use Rattle.run_spool.proofs.Sizes.{count_le_size, size_more, last_more}
 
@@ -51,6 +52,7 @@ pub record Last (size : List ℕ → Pair → ℕ) (chain : List PageValue) : Ty
   pub each : All HasPairs (take (length chain - 1) chain)
   pub packed : All (IsPacked size) (take (length chain - 1) chain)
   pub good : IsPacked size (last_of chain)
+  pub some : HasPairs (last_of chain)
   pub long : length (take (length chain - 1) chain) + 1 ≡ length chain
   pub count : length (pairs_of chain) ≡ length (pairs_of (take (length chain - 1) chain)) + length (last_of chain).pairs
 
@@ -69,6 +71,7 @@ last_of_chain size chain lt each packed =
       each = All-take HasPairs k chain each;
       packed = All-take (IsPacked size) k chain packed;
       good = packed k no_page (omega arith);
+      some = each k no_page (omega arith);
       long = omega (arith, length-take-le k chain (omega arith));
       count = count_last chain k e;
     }
@@ -105,7 +108,10 @@ pushed_last {size = size} {chain = chain} pair new s some fits is =
       open_len_is = omega arith;
       each = o.each;
       packed = o.packed;
+      filled = subst (IsFilled size) (sym is) (filled_grown size (take (length chain - 1) chain) (last_of chain) pair l.some
+          (subst (IsFilled size) (sym (same_last chain there)) s.filled));
       closed = s.closed;
+      all_filled = s.all_filled;
       room = s.room;
       fits = s.fits;
       open_fits = λ (_ : 0 < length new). s.open_fits there;
@@ -115,9 +121,9 @@ pushed_last {size = size} {chain = chain} pair new s some fits is =
 -- the fields of a spool after a pair was written on a new page
 pub pushed_new : {size : List ℕ → Pair → ℕ} {account : AccountValue} {spare : ℕ} {runs : List (List PageValue)} {places : ℕ} {chain : List PageValue} {len : ℕ}
     {last : List ℕ} (pair : Pair) (leased : AccountValue) (left : ℕ) (new : List PageValue) → IsSpool size account spare runs places chain len last
-    → size [] pair ≤ 4096 → NoneEmpty runs → 0 < account.free → leased ≡ with_free account (account.free - 1) → left + 1 ≡ spare
+    → size [] pair ≤ 4096 → (last_of chain).room < size_on size (last_of chain) pair → NoneEmpty runs → 0 < account.free → leased ≡ with_free account (account.free - 1) → left + 1 ≡ spare
     → new ≡ chain ++ page_with size pair ∷ [] → IsSpool size leased left runs places new (len + 1) pair.key
-pushed_new {size = size} {account = account} {runs = runs} {chain = chain} {len = len} pair leased left new s fits some there is_leased is_left is =
+pushed_new {size = size} {account = account} {runs = runs} {chain = chain} {len = len} pair leased left new s fits none some there is_leased is_left is =
     let full : IsPacked size (page_with size pair) = omega arith in
     let o = opened size new chain (page_with size pair) is s.each s.packed (omega arith) full in
     let long = o.long in
@@ -138,7 +144,9 @@ pushed_new {size = size} {account = account} {runs = runs} {chain = chain} {len 
       open_len_is = omega arith;
       each = o.each;
       packed = o.packed;
+      filled = subst (IsFilled size) (sym is) (filled_more size chain (page_with size pair) s.filled none);
       closed = s.closed;
+      all_filled = s.all_filled;
       room = omega arith;
       fits = omega arith;
       open_fits = λ (_ : 0 < length new). omega arith;
@@ -164,7 +172,9 @@ run_closed {size = size} {runs = runs} {chain = chain} more room none s some is 
       open_len_is = ap (λ (ps : List PageValue). length (pairs_of ps)) (sym empty);
       each = subst (λ (ps : List PageValue). All HasPairs ps) (sym empty) (All-nil HasPairs);
       packed = subst (λ (ps : List PageValue). All (IsPacked size) ps) (sym empty) (All-nil (IsPacked size));
+      filled = subst (IsFilled size) (sym empty) tt;
       closed = subst (All (All HasPairs)) (sym is) (All-push (All HasPairs) runs chain s.closed s.each);
+      all_filled = subst (All (IsFilled size)) (sym is) (All-push (IsFilled size) runs chain s.all_filled s.filled);
       room = omega arith;
       fits = omega arith;
       open_fits = λ (lt : 0 < length none). absurd (omega arith);
@@ -177,7 +187,7 @@ pub run_freed : {size : List ℕ → Pair → ℕ} {account : AccountValue} {spa
     (given : AccountValue) (left i n : ℕ) (run after : List PageValue) → IsSpool size account spare runs places chain len last → i < length runs
     → run ≡ get_or runs i [] → after ≡ without_pairs n run → given.free + length after ≡ account.free + length run → given ≡ with_free account given.free
     → left + length after ≡ spare + length run → IsSpool size given left (set runs i after) places chain len last
-run_freed {account = account} {spare = spare} {runs = runs} {chain = chain} given left i n run after s there is gone counted kept frames =
+run_freed {size = size} {account = account} {spare = spare} {runs = runs} {chain = chain} given left i n run after s there is gone counted kept frames =
     let pages = sum_by-set (λ (r : List PageValue). length r) runs i after [] there in
     let same = ap (λ (r : List PageValue). length r) is in
     let long = length-set runs i after in
@@ -188,6 +198,7 @@ run_freed {account = account} {spare = spare} {runs = runs} {chain = chain} give
     let enough = s.room in
     let fits = s.fits in
     let each : All HasPairs after = subst (All HasPairs) (sym gone) (each_without run n (subst (All HasPairs) (sym is) (s.closed i [] there))) in
+    let filled : IsFilled size after = subst (IsFilled size) (sym gone) (filled_freed size n run (subst (IsFilled size) (sym is) (s.all_filled i [] there))) in
     record {
       law = omega arith;
       spare_is = omega arith;
@@ -195,7 +206,9 @@ run_freed {account = account} {spare = spare} {runs = runs} {chain = chain} give
       open_len_is = s.open_len_is;
       each = s.each;
       packed = s.packed;
+      filled = s.filled;
       closed = All-set (All HasPairs) runs i after each s.closed;
+      all_filled = All-set (IsFilled size) runs i after filled s.all_filled;
       room = omega arith;
       fits = omega arith;
       open_fits = λ (lt : 0 < length chain). (let few = s.open_fits lt in omega arith);
@@ -210,7 +223,7 @@ pub run_ended : {size : List ℕ → Pair → ℕ} {account : AccountValue} {spa
     runs ≡ rest ++ run ∷ [] → room ≡ places → n ≡ length (pairs_of run) → after ≡ without_pairs n run
     → given.free + length after ≡ account.free + length run →
     given ≡ with_free account given.free → left + length after ≡ spare + length run → IsSpool size given left rest room chain len last
-run_ended {runs = runs} {chain = chain} given left rest run after room n s is same all gone count kept frames =
+run_ended {size = size} {runs = runs} {chain = chain} given left rest run after room n s is same all gone count kept frames =
     let none = ap (λ (xs : List PageValue). length xs) (gone ∙ without_all run n all) in
     let pages = ap run_pages is ∙ sum_by-append (λ (r : List PageValue). length r) rest (run ∷ []) in
     let one = sum_by-cons (λ (r : List PageValue). length r) run [] in
@@ -228,7 +241,9 @@ run_ended {runs = runs} {chain = chain} given left rest run after room n s is sa
       open_len_is = s.open_len_is;
       each = s.each;
       packed = s.packed;
+      filled = s.filled;
       closed = (All-pop (All HasPairs) runs rest (Some run) is s.closed).0;
+      all_filled = (All-pop (IsFilled size) runs rest (Some run) is s.all_filled).0;
       room = omega arith;
       fits = omega arith;
       open_fits = λ (lt : 0 < length chain). (let few = s.open_fits lt in omega arith);
@@ -278,7 +293,9 @@ open_ended {size = size} {account = account} {runs = runs} {chain = chain} {len 
         open_len_is = ap (λ (ps : List PageValue). length (pairs_of ps)) (sym none);
         each = subst (λ (ps : List PageValue). All HasPairs ps) (sym none) (All-nil HasPairs);
         packed = subst (λ (ps : List PageValue). All (IsPacked size) ps) (sym none) (All-nil (IsPacked size));
+        filled = subst (IsFilled size) (sym none) tt;
         closed = subst (All (All HasPairs)) (sym no_rest) (All-nil (All HasPairs));
+        all_filled = subst (All (IsFilled size)) (sym no_rest) (All-nil (IsFilled size));
         room = omega arith;
         fits = omega arith;
         open_fits = λ (lt : 0 < length new). absurd (omega arith);

@@ -4,7 +4,7 @@ use Rattle.std.specs.List.{All, sum_by}
 use Rattle.spool_ledger.specs.Accounts.{AccountValue, with_free}
 use Rattle.keybytes.specs.declared.pair.Pair.{Pair}
 use Rattle.run_spool.specs.Pages.{PageValue, last_key, size_on, page_with, IsPacked}
-use Rattle.run_spool.specs.Runs.{pairs_of, last_of, on_last, without_pairs, HasPairs}
+use Rattle.run_spool.specs.Runs.{pairs_of, last_of, on_last, without_pairs, HasPairs, IsFilled}
 use Rattle.run_spool.specs.Spools.{with_closed_run}
 
 -- the closed runs and the open one, each as its pages, and the account behind them
@@ -67,13 +67,19 @@ abbrev pub without_runs : PagedSpoolValue → PagedSpoolValue
 without_runs spool = new_spool (with_free spool.account spool.account.quota)
 
 -- what every paged spool keeps: its account's quota is the free pages and those of its runs, each of these has a pair that isn't freed,
--- those of the open run are packed, and no more runs are closed than the quota
+-- those of the open run are packed, a run goes on to another page only where a pair has no room, and no more runs are closed than the quota
 pub record IsPagedSpool (size : List ℕ → Pair → ℕ) (spool : PagedSpoolValue) : Type 0 where
   pub law : spool.account.free + run_pages spool.runs + length spool.open_run ≡ spool.account.quota
   pub each : All HasPairs spool.open_run
   pub packed : All (IsPacked size) spool.open_run
+  pub filled : IsFilled size spool.open_run
   pub closed : All (All HasPairs) spool.runs
+  pub all_filled : All (IsFilled size) spool.runs
   pub fits : length spool.runs ≤ spool.account.quota
+
+-- no pair of its closed runs was freed: each of their pages is packed still
+abbrev pub IsIntact : (List ℕ → Pair → ℕ) → PagedSpoolValue → Type 0
+IsIntact size spool = All (All (IsPacked size)) spool.runs
 
 -- a paged spool has no page for a pair that needs one
 abbrev pub IsFullSpool : (List ℕ → Pair → ℕ) → PagedSpoolValue → Pair → Type 0
@@ -89,7 +95,9 @@ pub record IsSpool (size : List ℕ → Pair → ℕ) (account : AccountValue) (
   pub open_len_is : len ≡ length (pairs_of open_run)
   pub each : All HasPairs open_run
   pub packed : All (IsPacked size) open_run
+  pub filled : IsFilled size open_run
   pub closed : All (All HasPairs) runs
+  pub all_filled : All (IsFilled size) runs
   pub room : account.quota ≤ places
   pub fits : length runs ≤ account.quota
   pub open_fits : 0 < length open_run → length runs + 1 ≤ account.quota

@@ -1,5 +1,5 @@
 -- Spools of every kind.
-use Rattle.std.specs.Prelude.{◌≡◌, [], ◌∷◌, ◌++◌, ◌<◌, ◌==◌, ◌&&◌, Bool, List, All, length, Option, option_map, filter_map}
+use Rattle.std.specs.Prelude.{◌≡◌, ◌⊎◌, [], ◌∷◌, ◌++◌, ◌<◌, ◌==◌, ◌&&◌, Bool, List, All, length, Option, option_map, filter_map}
 use Rattle.std.specs.List.{flat_map}
 use Rattle.std.specs.List.Sorted.{IsSorted}
 use Rattle.spool_ledger.specs.Accounts.{Stake}
@@ -16,6 +16,14 @@ with_closed_run runs (first ∷ run) = runs ++ (first ∷ run) ∷ []
 -- no closed run is empty
 abbrev pub NoneEmpty : {X : Type 0} → List (List X) → Type 0
 NoneEmpty runs = All (λ run. 0 < length run) runs
+
+-- no pair of a closed run was freed, as where there is no closed run
+abbrev pub NoneFreed : {S : Type 0} → (S → Type 0) → (S → List (List Pair)) → S → Type 0
+NoneFreed is_intact runs spool = (runs spool ≡ []) ⊎ is_intact spool
+
+-- a spool has no room left for a pair, though none was freed
+abbrev pub IsFullIntact : {S : Type 0} → (S → Pair → Type 0) → (S → Type 0) → (S → List (List Pair)) → S → Pair → Type 0
+IsFullIntact is_full is_intact runs spool pair = is_full spool pair × NoneFreed is_intact runs spool
 
 -- each run is in order of key, then RID
 abbrev pub AreSorted : List (List Pair) → Type 0

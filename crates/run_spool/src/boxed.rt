@@ -9,6 +9,8 @@ impl Spool for Box<dyn Spool + Send> {
 
     ghost is_full = { λ spool. (Spool-box spool).is_full spool.value };
 
+    ghost is_intact = { λ spool. (Spool-box spool).is_intact spool.value };
+
     ghost ended = { λ spool. (Spool-box spool).ended spool.value };
 
     ghost pages = { λ spool. (Spool-box spool).pages spool.value };

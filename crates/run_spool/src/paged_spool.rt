@@ -212,13 +212,15 @@ impl<P: PageOfPairs> Spool for PagedSpool<P> {
     ghost use Rattle.std.specs.Prelude.{Some, ◌≡◌, []};
     ghost use Rattle.spool_ledger.specs.Accounts.{IsWhole, stake_of};
     ghost use Rattle.run_spool.specs.Runs.{pairs_of};
-    ghost use Rattle.run_spool.specs.PagedSpools.{IsFullSpool, runs_of, leased_pages};
+    ghost use Rattle.run_spool.specs.PagedSpools.{IsIntact, IsFullSpool, runs_of, leased_pages};
 
     ghost runs = { runs_of };
 
     ghost open_run = { λ spool. pairs_of spool.open_run };
 
     ghost is_full = { IsFullSpool P.pair_size };
+
+    ghost is_intact = { IsIntact P.pair_size };
 
     ghost ended = { λ spool. (spool.runs ≡ []) × (spool.open_run ≡ []) × IsWhole spool.account };
 

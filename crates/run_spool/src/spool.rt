@@ -3,7 +3,7 @@ ghost use Rattle.std.specs.Prelude.{Option, Some, None, MatchOption, IfOk, IfErr
 ghost use Rattle.keybytes.specs.declared.pair.Pair.{Pair};
 ghost use Rattle.spool_ledger.specs.Accounts.{IsWhole, Stake, stake_of};
 ghost use Rattle.run_spool.specs.Pages.{IsPairAt};
-ghost use Rattle.run_spool.specs.Spools.{NoneEmpty, with_closed_run, without_pages};
+ghost use Rattle.run_spool.specs.Spools.{NoneEmpty, NoneFreed, with_closed_run, without_pages};
 
 use keybytes::{Fault, Key, Pair, Rid};
 use spool_ledger::Account;
@@ -18,6 +18,9 @@ pub trait Spool: Drop {
 
     /// No room is left for that pair.
     ghost is_full: { Self → Pair → Type 0 };
+
+    /// No pair of a closed run was freed.
+    ghost is_intact: { Self → Type 0 };
 
     /// Every page that was leased is back.
     ghost ended: { Self → Type 0 };
@@ -42,12 +45,14 @@ pub trait Spool: Drop {
         ensures back { IfErr result (λ refused. (refused.0 ≡ pair) × (refused.1 ≡ Fault.NoPage)) }
         ensures err { OnErr result (open_run self.new ≡ open_run self.old) }
         ensures runs { runs self.new ≡ runs self.old }
+        ensures intact { is_intact self.old → is_intact self.new }
         ensures stake { stake self.new ≡ stake self.old };
 
     /// Closes the open run, if it has a pair.
     fn end_run(&mut self)
         ensures runs { runs self.new ≡ with_closed_run (runs self.old) (open_run self.old) }
         ensures open_run { open_run self.new ≡ [] }
+        ensures intact { NoneFreed is_intact runs self.old → is_intact self.new }
         ensures stake { stake self.new ≡ stake self.old };
 
     /// The number of closed runs.
@@ -67,6 +72,7 @@ pub trait Spool: Drop {
         ensures memory { IfErr result (λ fault. fault ≡ Fault.Memory) }
         ensures runs { runs self.new ≡ runs self.old }
         ensures open_run { open_run self.new ≡ open_run self.old }
+        ensures intact { is_intact self.old → is_intact self.new }
         ensures stake { stake self.new ≡ stake self.old };
 
     /// Frees the first `n` pairs of closed run `i`, which keeps its number even where none is left.

@@ -1,12 +1,14 @@
 -- What an input gives, record by record and line by line.
-use Rattle.std.proofs.Common.{◌≡◌, ◌==◌, ℕ, ◌+◌, Bool, List, [], ◌∷◌, ◌++◌, length, length-append, Some, true, false, arith, refl, ap, sym, subst, ◌∙◌}
+use Rattle.std.proofs.Common.{◌≡◌, ◌==◌, ℕ, ◌+◌, Bool, List, [], ◌∷◌, ◌++◌, length, length-append, Option, Some, None, true, false, arith, refl, ap, sym, subst, ◌∙◌}
 use Rattle.std.proofs.lemmas.List.{append-nil, append_assoc}
-use Rattle.std.specs.Io.BufRead.{drop_through, take_through}
+use Rattle.std.specs.Io.BufRead.{DropsThrough, drop_through, take_through}
+use Rattle.std.specs.Io.KnownBytes.{IsAtEnd}
 use Rattle.std.specs.List.{AllZip}
 use Rattle.script.specs.InputLines.{IsTold, input_lines, put_first, records_in_lines}
 use Rattle.script.specs.Records.{records_of}
 use Rattle.script.specs.declared.input_record.InputRecord.{InputRecord}
-use Rattle.shell.specs.Inputs.{Gives, HasEnded, InputValue, records_by_line}
+use Rattle.shell.specs.Inputs.{AreAllOf, Gives, GivesNext, HasEnded, InputValue, IsReadOut, StayKnown, records_by_line}
+use Rattle.shell.specs.declared.numbered_record.NumberedRecord.{NumberedRecord}
 
 pub bool_cases : (b : Bool) {A : Type 0} → (b ≡ true → A) → (b ≡ false → A) → A
 bool_cases true = λ yes no. yes refl
@@ -48,6 +50,28 @@ gives_both a b c told more first second = record {
   behind = λ text before given.
       rw (← append_assoc before told more) (second.behind text (before ++ told) (first.behind text before given));
 }
+
+-- where nothing was given in between, the next record is the next one from before
+pub gives_behind : (old mid new : InputValue) (next : NumberedRecord) → Gives old [] mid → GivesNext mid new next → GivesNext old new next
+gives_behind old mid new next none one = (
+  (let counted = none.counted in let here = one.0 in omega arith),
+  gives_both old mid new [] (next.record ∷ []) none one.1,
+)
+
+-- and the end is the end from before
+pub ended_behind : (old mid : InputValue) → Gives old [] mid → HasEnded mid → HasEnded old
+ended_behind old mid none ended = λ text told given.
+    subst (λ (all : List InputRecord). AreAllOf text all) (append-nil told) (ended text (told ++ []) (none.behind text told given))
+
+-- bytes that are known stay so where a line of them is read
+pub stay_known : (old new : Option (List ℕ)) → DropsThrough old new 10 → StayKnown old new
+stay_known None new drops = λ some. (cc)
+stay_known (Some xs) new drops = λ some. rw drops refl
+
+-- and at their end none is left
+pub read_out : (old new : Option (List ℕ)) → IsAtEnd old → DropsThrough old new 10 → IsReadOut old new
+read_out None new end drops = λ some. (cc)
+read_out (Some xs) new end drops = λ some. drops ∙ ap (λ (bytes : List ℕ). Some (drop_through 10 bytes)) end
 
 -- a record that waits is given
 pub gives_first : (old new : InputValue) (first : InputRecord) → old.waiting ≡ first ∷ new.waiting → new.bytes ≡ old.bytes

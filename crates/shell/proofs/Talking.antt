@@ -10,10 +10,14 @@ use Rattle.script.specs.declared.input_record.InputRecord.{InputRecord}
 use Rattle.script.specs.declared.input_record.InputRecord.TheVariants.{Good, Word, Bad}
 use Rattle.script.specs.declared.line.Line.TheVariants.{PassedOver, Table as TableLine, Command as CommandLine}
 use Rattle.script.specs.declared.numbered_command.NumberedCommand.{NumberedCommand}
+use Rattle.script.specs.declared.table.Table.{Table}
 use Rattle.replay.specs.Sessions.{RunsAll, RunsOn, ScriptState, empty_heap_of}
+use Rattle.replay.specs.declared.answer.Answer.{Answer}
 use Rattle.replay.specs.declared.status.Status.{Status}
 use Rattle.replay.specs.declared.status.Status.TheVariants.{Done}
-use Rattle.shell.specs.Conversations.{AreAnswered, EndsFrom, Finishes, GoesOn, IsQuit, Leaves, MakesNone, MakesTable, EndsBefore, EndsOn, commands_told}
+use Rattle.shell.specs.Conversations.{AnswersTable, AreAnswered, ComesBehind, EndsFrom, Finishes, GoesOn, IsQuit, Leaves, MakesNone, MakesTable, EndsBefore, EndsOn, commands_told}
+use Rattle.shell.specs.declared.before_table.BeforeTable.{BeforeTable}
+use Rattle.shell.specs.declared.before_table.BeforeTable.TheVariants.{Made, NoTable, Quits}
 use Rattle.shell.specs.declared.failed.Failed.{Failed}
 use Rattle.shell.specs.Inputs.{AreFirstOf, Gives, GivesNext, HasEnded, HasGiven, InputValue, records_by_line}
 use Rattle.shell.specs.declared.numbered_record.NumberedRecord.{NumberedRecord}
@@ -149,6 +153,13 @@ goes_more told one goes on = All-append IsNoQuit told (one ∷ []) goes (All-con
 -- it made no table
 pub none_more : (told : List InputRecord) (one : InputRecord) → All MakesNone told → MakesNone one → All MakesNone (told ++ one ∷ [])
 none_more told one none also = All-append MakesNone told (one ∷ []) none (All-cons MakesNone one [] also (All-nil MakesNone))
+
+-- what a table is answered says what comes behind it
+pub table_behind : (table : Table) (given : Answer) (behind : BeforeTable) → AnswersTable table given behind
+    → ComesBehind (Good (TableLine table)) behind
+table_behind table given NoTable told = ((told.0, told.2), (λ is. is))
+table_behind table given (Made slot_limit parts) told = (table, refl, told.1, told.2, told.3)
+table_behind table given Quits told = absurd told
 
 -- a record that ends the conversation is no table
 pub quit_makes_none : (one : InputRecord) → IsQuit one → MakesNone one

@@ -14,6 +14,7 @@ use Rattle.script.specs.declared.table.Table.{Table}
 use Rattle.replay.specs.Limits.{table_refusal}
 use Rattle.replay.specs.Sessions.{Runs, RunsAll, RunsOn, ScriptState, empty_heap_of, number_of}
 use Rattle.replay.specs.declared.answer.Answer.{Answer}
+use Rattle.replay.specs.declared.answer.Answer.TheVariants as answer
 use Rattle.replay.specs.declared.status.Status.{Status}
 use Rattle.replay.specs.declared.status.Status.TheVariants.{Done}
 use Rattle.shell.specs.Counting.{asked_by, counts_after}
@@ -87,6 +88,13 @@ ComesBehind one (Made slot_limit parts) =
     (table : Table) × (one ≡ Good (TableLine table)) × (table_refusal table ≡ None) × (parts.heap ≡ empty_heap_of table)
     × (slot_limit ≡ table.slot_limit)
 ComesBehind one Quits = IsQuit one
+
+-- a table is answered: it is made, with that slot limit; or the fault that refuses it is told
+abbrev pub AnswersTable : Table → Answer → BeforeTable → Type 0
+AnswersTable table given NoTable = (fault : Fault) × (given ≡ answer.Refused fault) × RefusedFor (table_refusal table) fault
+AnswersTable table given (Made slot_limit parts) =
+    (given ≡ answer.Done) × (table_refusal table ≡ None) × (parts.heap ≡ empty_heap_of table) × (slot_limit ≡ table.slot_limit)
+AnswersTable table given Quits = ⊥
 
 -- the conversation was over before a table was made
 abbrev pub EndsBefore : InputValue → Type 0

@@ -1,6 +1,6 @@
 -- The records that an input gives, line by line. A word of this file that ends with an input, what it gave and an input says of the three what
 -- stood before, what was given and what stands now.
-use Rattle.std.specs.Prelude.{◌≡◌, ℕ, ◌+◌, List, [], ◌∷◌, ◌++◌, length, Option, Some}
+use Rattle.std.specs.Prelude.{◌≡◌, ℕ, ◌+◌, List, [], ◌∷◌, ◌++◌, length, Option, Some, IsSome}
 use Rattle.std.specs.List.{AllZip}
 use Rattle.script.specs.InputLines.{IsTold, input_lines, records_in_lines}
 use Rattle.script.specs.declared.input_record.InputRecord.{InputRecord}
@@ -43,6 +43,14 @@ pub record Gives (old : InputValue) (told : List InputRecord) (new : InputValue)
 -- the input gave the record, with its number
 abbrev pub GivesNext : InputValue → InputValue → NumberedRecord → Type 0
 GivesNext old new next = (next.number ≡ old.given + 1) × Gives old (next.record ∷ []) new
+
+-- bytes that are known stay so
+abbrev pub StayKnown : Option (List ℕ) → Option (List ℕ) → Type 0
+StayKnown old new = IsSome old → IsSome new
+
+-- of bytes that were known none is left
+abbrev pub IsReadOut : Option (List ℕ) → Option (List ℕ) → Type 0
+IsReadOut old new = IsSome old → new ≡ Some []
 
 -- nothing is left to be given: all records of the text were
 abbrev pub HasEnded : InputValue → Type 0

@@ -1,7 +1,7 @@
 //! The answers to single records.
 ghost use Rattle.std.specs.Prelude.{◌≡◌, [], ◌∷◌, true, false, IfOk, OnOk};
 ghost use Rattle.replay.specs.Sessions.{state_of, Runs, RunsAll};
-ghost use Rattle.shell.specs.Conversations.{ComesBehind, CountsFollow, IsQuit, commands_told, line_in};
+ghost use Rattle.shell.specs.Conversations.{AnswersTable, ComesBehind, CountsFollow, IsQuit, commands_told, line_in};
 ghost use Rattle.shell.specs.Counting.{asked_by, counts_after};
 
 use crate::asked::Asked;
@@ -18,7 +18,7 @@ use crate::word::Word;
 use builder_core::TableRings;
 use keybytes::Fault;
 use leased_core::LeasedCore;
-use replay::{Answer, Output, OutputFailed, Session, refuse_table, table_parts};
+use replay::{Answer, Output, OutputFailed, Session, table_parts};
 use script::{Command, Explanation, InputRecord, Line, RaceName};
 use std::alloc::{AllocFailed, Global};
 use std::io::Write;
@@ -62,31 +62,24 @@ fn answer_line<W: Write + Drop>(
 {
     match line {
         Line::PassedOver => (),
-        Line::Table(table) => return make_table(alloc, number, table, output),
+        Line::Table(table) => {
+            let (answer, behind) = make_table(alloc, table);
+            output.print(number, &answer)?;
+            return Ok(behind);
+        }
         Line::Command(_command) => print_bad(output, number, &Complaint::NoTable)?,
     }
     Ok(BeforeTable::NoTable)
 }
 
-/// Makes a table, or answers why it is refused.
-fn make_table<W: Write + Drop>(
-    alloc: Global,
-    number: usize,
-    table: script::Table,
-    output: &mut Output<W>,
-) -> Result<BeforeTable, Failed>
-    ensures { IfOk result (ComesBehind (InputRecord.Good (Line.Table table))) }
+/// Makes a table, or tells why it is refused.
+fn make_table(alloc: Global, table: script::Table) -> (Answer, BeforeTable)
+    ensures { AnswersTable table result.0 result.1 }
 {
     let slot_limit = table.slot_limit;
     match table_parts(alloc, table) {
-        Ok(parts) => {
-            output.print(number, &Answer::Done)?;
-            Ok(BeforeTable::Made { slot_limit, parts })
-        }
-        Err(fault) => {
-            let _failed = refuse_table(number, fault, output)?;
-            Ok(BeforeTable::NoTable)
-        }
+        Ok(parts) => (Answer::Done, BeforeTable::Made { slot_limit, parts }),
+        Err(fault) => (Answer::Refused { fault }, BeforeTable::NoTable),
     }
 }
 

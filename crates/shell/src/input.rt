@@ -1,6 +1,6 @@
-ghost use Rattle.std.specs.Prelude.{◌≡◌, [], true, false, None, Some, IfOk, OnOk, MatchOption};
+ghost use Rattle.std.specs.Prelude.{◌≡◌, ◌⊎◌, [], true, false, None, Some, IfOk, OnErr, OnOk, MatchOption};
 ghost use Rattle.std.specs.Io.Buffered.{reader_remaining};
-ghost use Rattle.shell.specs.Inputs.{Gives, GivesNext, HasEnded};
+ghost use Rattle.shell.specs.Inputs.{Gives, GivesNext, HasEnded, IsReadOut, StayKnown};
 
 use crate::failed::Failed;
 use crate::numbered_record::NumberedRecord;
@@ -69,18 +69,43 @@ impl<R: Read + Drop, P: Write + Drop> Input<R, P> {
         })
     }
 
-    /// The next record, for which it may wait; none where the input has ended.
+    /// The next record, for which it may wait; none where the input has ended. It breaks off only where it has to read, or has no number left.
     pub fn next(&mut self) -> Result<Option<NumberedRecord>, Failed>
-        ensures { IfOk result (λ found. MatchOption found (HasEnded self.old) (GivesNext self.old self.new)) }
+        ensures next { IfOk result (λ found. MatchOption found (HasEnded self.old) (GivesNext self.old self.new)) }
+        ensures end { result ≡ Ok None → IsReadOut self.old.bytes self.new.bytes }
+        ensures waits { OnErr result ((self.old.waiting ≡ []) ⊎ (self.old.given ≡ usize.MAX)) }
+    {
+        if let Some(found) = self.take_waiting()? {
+            return Ok(Some(found));
+        }
+        self.read_next()
+    }
+
+    /// The next of the records that wait, with its number.
+    fn take_waiting(&mut self) -> Result<Option<NumberedRecord>, Failed>
+        ensures next { IfOk result (λ found. MatchOption found ((self.old.waiting ≡ []) × (self.new ≡ self.old)) (GivesNext self.old self.new)) }
+        ensures numbers { OnErr result (self.old.given ≡ usize.MAX) }
+    {
+        let Some(record) = self.waiting.pop_front() else {
+            return Ok(None);
+        };
+        let number = self.given.checked_add(1).ok_or(Failed::CannotRead)?;
+        self.given = number;
+        Ok(Some(NumberedRecord { number, record }))
+    }
+
+    /// The next record where none waits: the first of the next line that has one.
+    fn read_next(&mut self) -> Result<Option<NumberedRecord>, Failed>
+        requires { self.old.waiting ≡ [] }
+        ensures next { IfOk result (λ found. MatchOption found (HasEnded self.old) (GivesNext self.old self.new)) }
+        ensures end { result ≡ Ok None → IsReadOut self.old.bytes self.new.bytes }
     {
         for _ in 0..u64::MAX {
-            if let Some(record) = self.waiting.pop_front() {
-                let number = self.given.checked_add(1).ok_or(Failed::CannotRead)?;
-                self.given = number;
-                return Ok(Some(NumberedRecord { number, record }));
-            }
             if !self.read_line()? {
                 return Ok(None);
+            }
+            if let Some(found) = self.take_waiting()? {
+                return Ok(Some(found));
             }
         }
         Err(Failed::CannotRead)
@@ -91,6 +116,8 @@ impl<R: Read + Drop, P: Write + Drop> Input<R, P> {
         requires { self.old.waiting ≡ [] }
         ensures read { result ≡ Ok true → Gives self.old [] self.new }
         ensures ended { result ≡ Ok false → HasEnded self.old }
+        ensures known { OnOk result (StayKnown self.old.bytes self.new.bytes) }
+        ensures end { result ≡ Ok false → IsReadOut self.old.bytes self.new.bytes }
     {
         self.show_prompt()?;
         self.line.clear();

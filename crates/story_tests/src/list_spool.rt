@@ -95,6 +95,9 @@ impl<H: Hold> Spool for ListSpool<H> {
 
     ghost is_full = { λ spool pair. IsFullList spool };
 
+    // (freed pairs leave no room for others in a list, so that it doesn't matter whether some were)
+    ghost is_intact = { λ spool. Unit {0} };
+
     ghost ended = { λ spool. (spool.runs ≡ []) × (spool.open_run ≡ []) };
 
     ghost pages = { λ spool. 0 };

@@ -1,12 +1,23 @@
 //! The steps of a build that are done under the lock.
-ghost use Rattle.std.specs.Prelude.{◌≡◌, ◌≢◌, ℕ, ◌<◌, ◌≤◌, ◌+◌, ◌*◌, List, length, map, drop, Some, None, true, false, IfOk, IfErr, IfSome, IsSome, OnErr, OnOk, All};
+ghost use Rattle.std.specs.Prelude.{◌≡◌, ◌≢◌, ◌⊎◌, ℕ, ◌<◌, ◌≤◌, ◌+◌, ◌*◌, List, length, map, drop, Some, None, true, false, IfOk, IfErr, IfSome, IsSome, OnErr, OnOk, All};
+ghost use Rattle.std.specs.List.{AllZip};
+ghost use Rattle.keybytes.specs.Answered.{Answered};
 ghost use Rattle.keybytes.specs.Keys.{KeySpecValue};
 ghost use Rattle.keybytes.specs.declared.fault.Fault.{Fault};
+ghost use Rattle.side_file.specs.Ends.{PutEndLooked};
+ghost use Rattle.build_events.specs.BuildSteps.{Scans, Starts, Switches, fenced, start_refusal};
+ghost use Rattle.build_events.specs.CoreState.{abandoned};
+ghost use Rattle.building.specs.BuildingValue.{intakes};
 ghost use Rattle.building.specs.IndexLoads.{CanLoadAll};
 ghost use Rattle.building.specs.Lent.{CanLend};
+ghost use Rattle.building.specs.Rings.{all_free, begun_on};
 ghost use Rattle.ready_indexes.specs.Following.{indexes_of};
-ghost use Rattle.live_lemmas.specs.Settling.{HasRoomForBatch, waiting_in};
-ghost use Rattle.crew.specs.Credits.{IsBounded, IsKnown, IsSettledBeside, TakesMore, caught_up_by, indexes_of_build};
+ghost use Rattle.live_lemmas.specs.Builds.{StandsBeside, core_state, page_refusal, put_refusal};
+ghost use Rattle.live_lemmas.specs.Putting.{IsPutTo, SendsAll, SendsNext};
+ghost use Rattle.live_lemmas.specs.Settling.{FeedsEach, HasRoomForBatch, IsSettled, OnlyFeeds, waiting_in};
+ghost use Rattle.live_lemmas.specs.Switching.{HandsOver, HaveAll, IsKeptOut, IsOnlyLookedAt, IsPartOf, KeepsOut, early_cause};
+ghost use Rattle.crew.specs.Credits.{HasKnown, IsBounded, IsKnown, IsSettledBeside, TakesMore, caught_up_by, indexes_of_build, live_in};
+ghost use Rattle.crew.specs.Fencing.{RefusesToSwitch};
 ghost use Rattle.crew.specs.Reports.{EndsFor, IsOther, IsReport, lists_in};
 ghost use Rattle.crew.specs.Places.{GoesOnWith, HasPairsLeft, StillScans, stakes_beside};
 
@@ -21,7 +32,7 @@ use side_file::Entry;
 use std::alloc::Global;
 
 impl<T: Opened> Locked<T> {
-    /// A build of the plan's indexes starts.
+    /// A build of the plan's indexes starts. Answers how many pages it reads.
     pub(crate) fn start<S: Spool>(
         &mut self,
         plan: &Plan,
@@ -33,6 +44,13 @@ impl<T: Opened> Locked<T> {
         ensures not_empty { IfErr result (λ fault. fault ≡ Fault.SpoolNotEmpty → HasPairsLeft building.old) }
         ensures not_busy { IfErr result (λ fault. (count : ℕ) → fault ≢ Fault.Busy count) }
         ensures not_behind { IfErr result (λ fault. (left : ℕ) → fault ≢ Fault.Behind left) }
+        ensures started { Answered (start_refusal self.old.state (core_state (live_in self.old) building.old).spools plan.now) (Starts plan.now)
+            (core_state (live_in self.old) building.old) result (core_state (live_in self.new) building.new) }
+        ensures works { OnOk result (StandsBeside (live_in self.new) building.new) }
+        ensures emptied { OnOk result (intakes building.new.workers building.new.idle ≡ map (begun_on self.new.state.builds) self.new.pages) }
+        ensures pages { OnOk result (self.new.pages ≡ map all_free self.old.pages) }
+        ensures sides { OnOk result (AllZip PutEndLooked self.old.sides self.new.sides) }
+        ensures unchanged { OnErr result ((self.new ≡ self.old) × (building.new ≡ building.old)) }
         ensures credit { OnOk result (self.new.credit ≡ None) }
         ensures log { self.new.state.heap.log ≡ self.old.state.heap.log }
     {
@@ -42,13 +60,21 @@ impl<T: Opened> Locked<T> {
         Ok(number)
     }
 
-    /// The lowest page of the range that is left is copied for the worker, in one step.
+    /// The lowest page of the range that is left is copied for the worker, in one step. Where it is refused the buffer is handed back.
     pub(crate) fn scan_step(
         &mut self,
         range: usize,
         worker: usize,
         image: PageImage,
     ) -> Result<u32, (PageImage, Fault)>
+        ensures scanned { IfOk result (λ page. Scans range worker self.old.state page self.new.state) }
+        ensures accepted { OnOk result (page_refusal self.old.state range worker ≡ None) }
+        ensures put { OnOk result (IsPutTo worker (live_in self.old) (live_in self.new)) }
+        ensures looked { OnErr result (AllZip PutEndLooked self.old.pages self.new.pages) }
+        ensures sides { self.new.sides ≡ self.old.sides }
+        ensures unchanged { OnErr result (self.new.state ≡ self.old.state) }
+        ensures refused { IfErr result (λ back. put_refusal (live_in self.new) range worker ≡ Some back.1) }
+        ensures handed_back { IfErr result (λ back. back.0 ≡ image) }
         ensures other { IfErr result (λ back. IsOther back.1) }
         ensures credit { self.new.credit ≡ None }
         ensures log { self.new.state.heap.log ≡ self.old.state.heap.log }
@@ -64,6 +90,15 @@ impl<T: Opened> Locked<T> {
         ensures loads { OnOk result ((specs : List KeySpecValue) → GoesOnWith 0 specs building.old → StillScans building.old → CanLoadAll building.new) }
         ensures goes_on { OnOk result ((specs : List KeySpecValue) → GoesOnWith 0 specs building.old → GoesOnWith 0 specs building.new) }
         ensures stakes { stakes_beside building.new ≡ stakes_beside building.old }
+        ensures hands_over { OnOk result (IfSome building.old.work
+            (λ w. w.handed ≡ false → HandsOver (live_in self.old) building.old (live_in self.new) building.new)) }
+        ensures again { OnOk result (IfSome building.old.work
+            (λ w. w.handed ≡ true → IsOnlyLookedAt (live_in self.old) building.old (live_in self.new) building.new)) }
+        ensures works { OnOk result (StandsBeside (live_in self.new) building.new) }
+        ensures all { OnOk result (IsPartOf (live_in self.old) building.old × HaveAll (live_in self.old) building.old) }
+        ensures first { OnOk result (early_cause false (core_state (live_in self.old) building.old) ≡ None) }
+        ensures out { IfErr result (λ fault. IsKeptOut false (live_in self.old) building.old fault (live_in self.new) building.new) }
+        ensures same { core_state (live_in self.new) building.new ≡ core_state (live_in self.old) building.old }
         ensures other { IfErr result (λ fault. IfSome building.old.work (λ w. w.spoiled ≡ None → IsOther fault)) }
         ensures credit { self.new.credit ≡ None }
         ensures log { self.new.state.heap.log ≡ self.old.state.heap.log }
@@ -88,6 +123,11 @@ impl<T: Opened> Locked<T> {
         ensures settled { OnOk result (IsSettledBeside self.new building.new) }
         ensures goes_on { OnOk result ((count : ℕ) (specs : List KeySpecValue) → GoesOnWith count specs building.old → GoesOnWith count specs building.new) }
         ensures stakes { stakes_beside building.new ≡ stakes_beside building.old }
+        ensures known { OnOk result (HasKnown known self.old.credit) }
+        ensures same { core_state (live_in self.new) building.new ≡ core_state (live_in self.old) building.old }
+        ensures refused { IfErr result (λ fault. KeepsOut true (live_in self.old) building.old fault
+            ⊎ ((fault ≡ Fault.NoBuild) × (HasKnown known self.old.credit → IsSettled (core_state (live_in self.old) building.old) → ⊥))) }
+        ensures kept { OnErr result (self.new.credit ≡ self.old.credit) }
         ensures other { IfErr result (λ fault. IfSome building.old.work (λ w. w.spoiled ≡ None → IsOther fault)) }
         ensures log { self.new.state.heap.log ≡ self.old.state.heap.log }
     {
@@ -105,6 +145,7 @@ impl<T: Opened> Locked<T> {
         ensures same { IfOk result (λ credit. self.now.credit ≡ Some credit) }
         ensures known { IfOk result (IsKnown known) }
         ensures other { IfErr result (λ fault. fault ≡ Fault.NoBuild) }
+        ensures unknown { OnErr result (HasKnown known self.now.credit → ⊥) }
     {
         match self.credit {
             Some(credit) if credit.is_known(known) => Ok(credit),
@@ -126,6 +167,9 @@ impl<T: Opened> Locked<T> {
         requires room { All (HasRoomForBatch most) batches.items }
         requires many { 1024 < waiting_in self.old.state }
         requires credit { IsSome self.old.credit }
+        ensures feeds { OnlyFeeds (core_state (live_in self.old) building.old) (core_state (live_in self.new) building.new) }
+        ensures each { FeedsEach most (core_state (live_in self.old) building.old) (core_state (live_in self.new) building.new) }
+        ensures works { StandsBeside (live_in self.new) building.new }
         ensures taken { IfSome self.old.credit (λ credit. TakesMore credit result) }
         ensures counted { IfSome self.old.credit (λ credit. waiting_in self.new.state + result.taken ≡ waiting_in self.old.state + credit.taken) }
         ensures within { IfSome self.old.credit (λ credit. result.taken ≤ credit.taken + length batches.items * most) }
@@ -163,6 +207,7 @@ impl<T: Opened> Locked<T> {
 
     /// Gives the build up, if one runs, with room for the entries that no index gets any more.
     pub(crate) fn abandon(&mut self, waste: &mut Vec<ChunkQueue<Entry>>)
+        ensures abandoned { live_in self.new ≡ record (live_in self.old) { state = abandoned self.old.state } }
         ensures none { self.new.state.build ≡ None }
         ensures credit { self.new.credit ≡ None }
         ensures log { self.new.state.heap.log ≡ self.old.state.heap.log }
@@ -187,6 +232,13 @@ impl<T: Opened> Locked<T> {
         ensures bounded { IfOk result (λ report. IsBounded (indexes_of_build self.old.state.build) (length report.receipt) report.caught_up) }
         ensures told { IfOk result (λ report. IfSome self.old.credit (λ credit. report.caught_up ≡ caught_up_by credit)) }
         ensures unasked { keep_pairs ≡ false → IfOk result (λ report. report.pairs ≡ None) }
+        ensures switched { IfOk result (λ report. Switches (core_state (live_in self.old) building.old)
+            (length report.receipt, report.verdicts) (core_state (live_in self.new) building.new)) }
+        ensures works { OnOk result (StandsBeside (live_in self.new) building.new) }
+        ensures refused { IfErr result (λ fault. RefusesToSwitch (live_in self.old) building.old fault (live_in self.new) building.new) }
+        ensures pages { AllZip PutEndLooked self.old.pages self.new.pages }
+        ensures sides { SendsNext (live_in self.old) self.new.sides }
+        ensures fed { OnOk result (SendsAll (live_in self.old) self.new.sides) }
         ensures log { IfOk result (λ report. report.receipt ≡ self.new.state.heap.log) }
         ensures same { OnErr result (self.new.state.heap.log ≡ self.old.state.heap.log) }
         ensures credit { self.new.credit ≡ None }
@@ -225,6 +277,11 @@ impl<T: Opened> Locked<T> {
         ensures log { self.new.state.heap.log ≡ self.old.state.heap.log }
         ensures credit { self.new.credit ≡ self.old.credit }
         ensures fenced { IsSome self.old.state.build → (count : ℕ) → fault ≡ Fault.Busy count → self.new.state.heap.fenced ≡ true }
+        ensures busy { IsSome self.old.state.build → (count : ℕ) → fault ≡ Fault.Busy count
+            → live_in self.new ≡ record (live_in self.old) { state = fenced self.old.state } }
+        ensures others { ((count : ℕ) → fault ≢ Fault.Busy count) → self.new ≡ self.old }
+        ensures pages { self.new.pages ≡ self.old.pages }
+        ensures sides { self.new.sides ≡ self.old.sides }
     {
         if let Fault::Busy(_) = fault {
             let _fenced = self.live.fence();

@@ -44,7 +44,8 @@ impl Credit {
 
     /// Whether it is the one that a build knows.
     pub fn is_known(&self, known: Credit) -> bool
-        ensures { result ≡ true → IsKnown known self.now }
+        ensures known { result ≡ true → IsKnown known self.now }
+        ensures other { result ≡ false → IsKnown known self.now → ⊥ }
     {
         self.first == known.first && self.taken == known.taken && self.turns == known.turns
     }

@@ -1,7 +1,8 @@
 //! What is noted under the lock of how far a build is.
 ghost use Rattle.std.specs.Prelude.{◌≡◌, ◌≤◌, IfSome, Some, None, max, min, length, true, false};
 ghost use Rattle.heap_table.specs.HeapState.{busy_txns};
-ghost use Rattle.crew.specs.Credits.{WriteHasCredit, indexes_of_build};
+ghost use Rattle.crew.specs.Credits.{WriteHasCredit, indexes_of_build, live_in};
+ghost use Rattle.live_lemmas.specs.Putting.{KeepsRings};
 ghost use Rattle.live_lemmas.specs.Settling.{waiting_in};
 
 use crate::locked::{Credit, Locked};
@@ -58,6 +59,7 @@ impl<T: Opened> Locked<T> {
     /// The build begins to catch up: sessions have credit from here on, which it is answered.
     pub(crate) fn give_credit(&mut self) -> Credit
         ensures state { self.new.state ≡ self.old.state }
+        ensures rings { KeepsRings (live_in self.old) (live_in self.new) }
         ensures credit { result ≡ record { first = waiting_in self.old.state; taken = 0; applied = 0; turns = 0 } }
         ensures given { self.new.credit ≡ Some result }
     {
@@ -69,6 +71,7 @@ impl<T: Opened> Locked<T> {
     /// So many of the entries that the build took are applied by now: sessions have credit for them.
     pub(crate) fn see_applied(&mut self, count: usize)
         ensures state { self.new.state ≡ self.old.state }
+        ensures rings { KeepsRings (live_in self.old) (live_in self.new) }
         ensures credit { IfSome self.old.credit (λ credit. self.new.credit ≡ Some (record credit { applied = max credit.applied (min count credit.taken) })) }
         ensures none { self.old.credit ≡ None → self.new.credit ≡ None }
     {
@@ -87,6 +90,7 @@ impl<T: Opened> Locked<T> {
     /// The try of that number begins. Sessions need no credit until more is given.
     pub(crate) fn note_try(&mut self, n: u32)
         ensures state { self.new.state ≡ self.old.state }
+        ensures rings { KeepsRings (live_in self.old) (live_in self.new) }
         ensures lifted { self.new.credit ≡ None }
     {
         self.credit = None;

@@ -2,6 +2,7 @@
 ghost use Rattle.std.specs.Prelude.{◌≡◌, All, None, IfErr, OnOk};
 ghost use Rattle.crew.specs.Reports.{IsOther};
 ghost use Rattle.crew.specs.Places.{places_of};
+ghost use Rattle.crew.specs.Working.{IsSealed};
 
 use crate::online_build::range_queue::RangeQueue;
 use crate::online_build::threads::run_all;
@@ -39,6 +40,7 @@ where
     R: Threads + Wait + Sync,
     ensures back { places_of result.0.items ≡ places_of workers.items }
     ensures fine { OnOk result.1 (All (λ worker. worker.fault ≡ None) result.0.items) }
+    ensures sealed { OnOk result.1 (All IsSealed result.0.items) }
     ensures other { IfErr result.1 IsOther }
 {
     match RangeQueue::new(rt, alloc, ranges_of(plan), gate) {
@@ -64,6 +66,7 @@ where
     R: Threads + Wait + Sync,
     ensures back { places_of result.0.items ≡ places_of workers.items }
     ensures fine { OnOk result.1 (All (λ worker. worker.fault ≡ None) result.0.items) }
+    ensures sealed { OnOk result.1 (All IsSealed result.0.items) }
     ensures other { IfErr result.1 IsOther }
 {
     let (mut workers, scanned) = run_all(rt, alloc, table, queue, gate, workers);
@@ -85,6 +88,7 @@ fn finish_scan<S: Spool, T: Opened, G: Gate, R: Wait>(
 ) -> Result<(), Fault>
     ensures back { places_of workers.new.items ≡ places_of workers.old.items }
     ensures fine { OnOk result (All (λ worker. worker.fault ≡ None) workers.new.items) }
+    ensures sealed { OnOk result (All IsSealed workers.new.items) }
     ensures other { IfErr result IsOther }
 {
     scan_rest(rt, alloc, table, ranges, gate, workers)?;
@@ -116,6 +120,7 @@ fn scan_rest<S: Spool, T: Opened, G: Gate, R: Wait>(
 fn seal_all<S: Spool>(workers: &mut Vec<Worker<S>>) -> Result<(), Fault>
     ensures back { places_of workers.new.items ≡ places_of workers.old.items }
     ensures fine { OnOk result (All (λ worker. worker.fault ≡ None) workers.new.items) }
+    ensures sealed { OnOk result (All IsSealed workers.new.items) }
     ensures other { IfErr result IsOther }
 {
     for number in 0..workers.len() {

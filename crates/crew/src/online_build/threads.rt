@@ -4,6 +4,7 @@ ghost use Rattle.keybytes.specs.declared.fault.Fault.{Fault};
 ghost use Rattle.crew.specs.Reports.{IsOther};
 ghost use Rattle.crew.specs.Places.{place_of, places_of};
 ghost use Rattle.crew.specs.Returning.{first_fault};
+ghost use Rattle.crew.specs.Working.{IsSealed};
 
 use crate::online_build::comes_back::{ComesBack, Returned};
 use crate::online_build::range_queue::RangeQueue;
@@ -29,6 +30,7 @@ fn run<S: Spool, T: Opened, G: Gate, R: Threads + Wait + Sync>(
     mut worker: Worker<S>,
 ) -> Returned<S>
     ensures same { place_of result.worker ≡ place_of worker }
+    ensures sealed { result.fault ≡ None → IsSealed result.worker }
     ensures other { IfSome result.fault IsOther }
 {
     let mut sort = ParSort::new(rt);

@@ -1,7 +1,10 @@
 //! What a worker does in its thread.
-ghost use Rattle.std.specs.Prelude.{◌≡◌, None, Some, IfErr, IfSome, OnOk};
+ghost use Rattle.std.specs.Prelude.{◌≡◌, ◌⊎◌, None, Some, true, false, IfErr, IfOk, IfSome, OnOk};
+ghost use Rattle.run_spool.specs.Spools.{IsFullIntact};
+ghost use Rattle.page_workers.specs.declared.turn.Turn.{Turn};
 ghost use Rattle.crew.specs.Reports.{IsOther};
 ghost use Rattle.crew.specs.Places.{place_of};
+ghost use Rattle.crew.specs.Working.{IsSealed, LooksAndDoes, LooksAndStops};
 
 use crate::online_build::range_queue::RangeQueue;
 use crate::{Gate, Opened, Point, Table};
@@ -13,7 +16,8 @@ use run_spool::Spool;
 use std::alloc::Global;
 use std::sync::Wait;
 
-/// Copies a page of the range for the worker, in one hold of the lock, and makes its pairs outside of it. Says whether the range had one.
+/// Copies a page of the range for the worker, in one hold of the lock, and makes pairs outside of it: of a copy that the worker has. Says whether the
+/// range had one; where it has none left, the worker does nothing.
 fn scan_page<S: Spool, T: Opened, G: Gate, Q: RunSort, R: Wait>(
     rt: &R,
     alloc: Global,
@@ -23,6 +27,10 @@ fn scan_page<S: Spool, T: Opened, G: Gate, Q: RunSort, R: Wait>(
     range: usize,
     sort: &mut Q,
 ) -> Result<bool, Fault>
+    ensures digested { IfOk result (λ had. had ≡ true → LooksAndDoes Turn.Digest worker.old worker.new) }
+    ensures none { IfOk result (λ had. had ≡ false → worker.new ≡ worker.old) }
+    ensures stopped { IfErr result (λ fault. (worker.new ≡ worker.old)
+        ⊎ LooksAndStops (IsFullIntact S.is_full S.is_intact S.runs) S.runs S.open_run S.stake Turn.Digest worker.old fault worker.new) }
     ensures same { place_of worker.new ≡ place_of worker.old }
     ensures other { IfErr result IsOther }
 {
@@ -44,6 +52,9 @@ fn scan_page<S: Spool, T: Opened, G: Gate, Q: RunSort, R: Wait>(
 
 /// Makes the pairs of the next copy that the worker has.
 fn digest<S: Spool, Q: RunSort>(worker: &mut Worker<S>, sort: &mut Q) -> Result<(), Fault>
+    ensures digested { OnOk result (LooksAndDoes Turn.Digest worker.old worker.new) }
+    ensures stopped { IfErr result (λ fault.
+        LooksAndStops (IsFullIntact S.is_full S.is_intact S.runs) S.runs S.open_run S.stake Turn.Digest worker.old fault worker.new) }
     ensures same { place_of worker.new ≡ place_of worker.old }
     ensures other { IfErr result IsOther }
 {
@@ -54,6 +65,9 @@ fn digest<S: Spool, Q: RunSort>(worker: &mut Worker<S>, sort: &mut Q) -> Result<
 
 /// Makes the pairs of all copies that the worker has, and closes its runs.
 pub(crate) fn seal<S: Spool, Q: RunSort>(worker: &mut Worker<S>, sort: &mut Q) -> Result<(), Fault>
+    ensures sealed { OnOk result (LooksAndDoes Turn.Seal worker.old worker.new) }
+    ensures stopped { IfErr result (λ fault.
+        LooksAndStops (IsFullIntact S.is_full S.is_intact S.runs) S.runs S.open_run S.stake Turn.Seal worker.old fault worker.new) }
     ensures same { place_of worker.new ≡ place_of worker.old }
     ensures fine { OnOk result (worker.new.fault ≡ None) }
     ensures other { IfErr result IsOther }
@@ -94,6 +108,7 @@ pub(crate) fn work<S: Spool, T: Opened, G: Gate, Q: RunSort, R: Wait>(
     worker: &mut Worker<S>,
     sort: &mut Q,
 ) -> Result<(), Fault>
+    ensures sealed { OnOk result (IsSealed worker.new) }
     ensures same { place_of worker.new ≡ place_of worker.old }
     ensures other { IfErr result IsOther }
 {

@@ -48,10 +48,10 @@ impl Heap {
         self.fenced = fenced;
     }
 
-    /// Begins the next transaction; [`Fault::Fenced`] where none may begin, [`Fault::TooManyTxns`] where [`OPEN_MAX`] are open or the
-    /// numbers are used up.
-    pub fn begin(&mut self) -> Result<u64, Fault>
-        ensures { Answered (begin_refusal self.old.state) (OnState Begins) self.old result self.new }
+    /// Why [`Heap::begin`] would be refused: [`Fault::Fenced`] where none may begin, [`Fault::TooManyTxns`] where [`OPEN_MAX`] are open or the
+    /// numbers are used up. Want of memory is no answer.
+    pub fn check_begin(&self) -> Result<(), Fault>
+        ensures { MatchResult result (λ _. begin_refusal self.now.state ≡ None) (λ fault. begin_refusal self.now.state ≡ Some fault) }
     {
         if self.fenced {
             return Err(Fault::Fenced);
@@ -59,6 +59,14 @@ impl Heap {
         if self.open_txns.len() >= OPEN_MAX || self.begun == u64::MAX {
             return Err(Fault::TooManyTxns);
         }
+        Ok(())
+    }
+
+    /// Begins the next transaction.
+    pub fn begin(&mut self) -> Result<u64, Fault>
+        ensures { Answered (begin_refusal self.old.state) (OnState Begins) self.old result self.new }
+    {
+        self.check_begin()?;
         let txn = self.begun + 1;
         self.log.reserve_txn(txn)?;
         let ended = ended_to(&self.open_txns, &self.log, self.ended);

@@ -14,9 +14,9 @@ const TWO_SPOOLS: Course = Course {
     pages: 3,
     filled: (3, 3),
     first: &[
-        Step::Compares(0, 5),
+        Step::Compares(5, 5),
         Step::Next(0, 3, 3),
-        Step::Compares(1, 14),
+        Step::Compares(6, 14),
         Step::Rest(3, 7),
         Step::Next(10, 1, 0),
     ],

@@ -14,6 +14,7 @@ ghost use Rattle.build_events.specs.BuildSteps.{Loads};
 ghost use Rattle.build_events.specs.Steps.{spoiled_by};
 ghost use Rattle.build_events.specs.Workers.{index_at};
 ghost use Rattle.build_events.specs.declared.event.Event.{Event};
+ghost use Rattle.run_spool.specs.Spools.{IsFullIntact};
 
 use crate::{Building, Live, TableRings};
 use keybytes::Fault;
@@ -111,7 +112,7 @@ impl<T: TableRings> Live<T> {
         requires runs { MayWork self.old building.old worker }
         ensures done { IfOk result (λ images. HasTurn Turn.Digest worker (core_state self.old building.old) images (core_state self.new building.new)) }
         ensures refused { IfErr result (λ fault.
-            IsTurnRefused S.is_full S.runs S.open_run S.stake Turn.Digest worker (core_state self.old building.old) fault (core_state self.new building.new)) }
+            IsTurnRefused (IsFullIntact S.is_full S.is_intact S.runs) S.runs S.open_run S.stake Turn.Digest worker (core_state self.old building.old) fault (core_state self.new building.new)) }
         ensures works { StandsBeside self.new building.new }
         ensures ends { PagesAreLooked self.old self.new }
     {
@@ -129,7 +130,7 @@ impl<T: TableRings> Live<T> {
         requires runs { MayWork self.old building.old worker }
         ensures done { IfOk result (λ images. HasTurn Turn.Seal worker (core_state self.old building.old) images (core_state self.new building.new)) }
         ensures refused { IfErr result (λ fault.
-            IsTurnRefused S.is_full S.runs S.open_run S.stake Turn.Seal worker (core_state self.old building.old) fault (core_state self.new building.new)) }
+            IsTurnRefused (IsFullIntact S.is_full S.is_intact S.runs) S.runs S.open_run S.stake Turn.Seal worker (core_state self.old building.old) fault (core_state self.new building.new)) }
         ensures works { StandsBeside self.new building.new }
         ensures ends { PagesAreLooked self.old self.new }
     {
@@ -147,7 +148,7 @@ impl<T: TableRings> Live<T> {
         requires runs { MayWork self.old building.old worker }
         ensures done { IfOk result (λ images. HasTurn turn worker (core_state self.old building.old) images (core_state self.new building.new)) }
         ensures refused { IfErr result (λ fault.
-            IsTurnRefused S.is_full S.runs S.open_run S.stake turn worker (core_state self.old building.old) fault (core_state self.new building.new)) }
+            IsTurnRefused (IsFullIntact S.is_full S.is_intact S.runs) S.runs S.open_run S.stake turn worker (core_state self.old building.old) fault (core_state self.new building.new)) }
         ensures works { StandsBeside self.new building.new }
         ensures ends { PagesAreLooked self.old self.new }
     {

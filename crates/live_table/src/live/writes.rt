@@ -1,5 +1,5 @@
 //! What transactions do to a table and its indexes.
-ghost use Rattle.std.specs.Prelude.{◌≡◌, length, Some, None, OnOk, IfOk, IfErr};
+ghost use Rattle.std.specs.Prelude.{◌≡◌, length, Some, None, MatchResult, OnOk, IfOk, IfErr};
 ghost use Rattle.keybytes.specs.Answered.{Answered};
 ghost use Rattle.keybytes.specs.Rows.{row_bytes};
 ghost use Rattle.heap_table.specs.Calls.{Begins, Inserts, Updates, Deletes, Undoes, Commits};
@@ -23,7 +23,14 @@ impl<T: TableRings> Live<T> {
         self.heap.begin()
     }
 
-    /// Why [`Live::insert`] would be refused. Want of memory is no answer.
+    /// Why [`Live::begin`] would be refused. Want of memory is no answer.
+    pub fn check_begin(&self) -> Result<(), Fault>
+        ensures { MatchResult result (λ _. begin_refusal self.now.state.heap ≡ None) (λ fault. begin_refusal self.now.state.heap ≡ Some fault) }
+    {
+        self.heap.check_begin()
+    }
+
+    /// Why [`Live::insert`] would be refused, likewise.
     pub fn check_insert(&self, txn: u64, row: &Row) -> Result<(), Fault>
         ensures accepted { OnOk result (row_refusal self.now.state txn row.now ≡ None) }
         ensures refused { IfErr result (λ fault. row_refusal self.now.state txn row.now ≡ Some fault) }

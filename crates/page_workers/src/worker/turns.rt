@@ -1,5 +1,6 @@
 //! A worker's turns.
 ghost use Rattle.std.specs.Prelude.{IfOk, IfErr};
+ghost use Rattle.run_spool.specs.Spools.{IsFullIntact};
 ghost use Rattle.page_workers.specs.Turns.{AnswersTurn, HasDone, HasLooked, IsStopped};
 
 use super::Worker;
@@ -21,14 +22,14 @@ impl<S: Spool> Worker<S> {
     /// none, and where the copy is of another build or of other columns, and so is dropped; and where its spools went to the indexes, and it takes
     /// nothing.
     pub fn digest(&mut self) -> Result<usize, Fault>
-        ensures { AnswersTurn S.is_full S.runs S.open_run S.stake Turn.Digest self.old result self.new }
+        ensures { AnswersTurn (IsFullIntact S.is_full S.is_intact S.runs) S.runs S.open_run S.stake Turn.Digest self.old result self.new }
     {
         self.take(Turn::Digest)
     }
 
     /// As [`Worker::digest`], with runs sorted by the sort that is lent.
     pub fn digest_with<Q: RunSort>(&mut self, sort: &mut Q) -> Result<usize, Fault>
-        ensures { AnswersTurn S.is_full S.runs S.open_run S.stake Turn.Digest self.old result self.new }
+        ensures { AnswersTurn (IsFullIntact S.is_full S.is_intact S.runs) S.runs S.open_run S.stake Turn.Digest self.old result self.new }
     {
         self.take_with(Turn::Digest, sort)
     }
@@ -36,14 +37,14 @@ impl<S: Spool> Worker<S> {
     /// Takes all copies that it has seen, spools their pairs, closes the run of each index, and answers how many copies of its build
     /// and of its maker's columns there were. Where its spools went to the indexes, it takes nothing.
     pub fn seal(&mut self) -> Result<usize, Fault>
-        ensures { AnswersTurn S.is_full S.runs S.open_run S.stake Turn.Seal self.old result self.new }
+        ensures { AnswersTurn (IsFullIntact S.is_full S.is_intact S.runs) S.runs S.open_run S.stake Turn.Seal self.old result self.new }
     {
         self.take(Turn::Seal)
     }
 
     /// As [`Worker::seal`], with runs sorted by the sort that is lent.
     pub fn seal_with<Q: RunSort>(&mut self, sort: &mut Q) -> Result<usize, Fault>
-        ensures { AnswersTurn S.is_full S.runs S.open_run S.stake Turn.Seal self.old result self.new }
+        ensures { AnswersTurn (IsFullIntact S.is_full S.is_intact S.runs) S.runs S.open_run S.stake Turn.Seal self.old result self.new }
     {
         self.take_with(Turn::Seal, sort)
     }
@@ -51,7 +52,7 @@ impl<S: Spool> Worker<S> {
     /// Does what that turn asks, as [`Worker::digest`] or [`Worker::seal`].
     pub fn take(&mut self, turn: Turn) -> Result<usize, Fault>
         ensures done { IfOk result (λ images. HasDone turn self.old images self.new) }
-        ensures stopped { IfErr result (λ fault. IsStopped S.is_full S.runs S.open_run S.stake turn self.old fault self.new) }
+        ensures stopped { IfErr result (λ fault. IsStopped (IsFullIntact S.is_full S.is_intact S.runs) S.runs S.open_run S.stake turn self.old fault self.new) }
     {
         self.take_with(turn, &mut StdSort)
     }
@@ -59,7 +60,7 @@ impl<S: Spool> Worker<S> {
     /// The same, with runs sorted by the sort that is lent.
     pub fn take_with<Q: RunSort>(&mut self, turn: Turn, sort: &mut Q) -> Result<usize, Fault>
         ensures done { IfOk result (λ images. HasDone turn self.old images self.new) }
-        ensures stopped { IfErr result (λ fault. IsStopped S.is_full S.runs S.open_run S.stake turn self.old fault self.new) }
+        ensures stopped { IfErr result (λ fault. IsStopped (IsFullIntact S.is_full S.is_intact S.runs) S.runs S.open_run S.stake turn self.old fault self.new) }
     {
         if let Some(fault) = self.fault {
             return Err(fault);

@@ -1,4 +1,5 @@
 use Rattle.std.proofs.Common.{◌≡◌, ◌+◌, ◌++◌, ◌∷◌, [], List, take, ap, sym, subst, ◌∙◌, arith}
+use Rattle.run_spool.specs.Spools.{IsFullIntact}
 use Rattle.std.proofs.lemmas.List.{take_all, take_more}
 use Rattle.build_events.specs.declared.event.Event.{Event}
 use Rattle.build_events.specs.CoreState.{CoreState, opening}
@@ -17,7 +18,7 @@ loop-event-preserved g c =
     take_more events i c.event-item.result c.loop-event-test.true ∙ ap (λ x. take i events ++ x ∷ []) (sym c.event-item.is) in
     record {
       run = rw (more, c.push_reserved.ensures.items)
-          (run_more (WantedPage g.S.Spool.is_full g.S.Spool.runs g.S.Spool.open_run g.S.Spool.stake) (opening c.args.live.state (spools_in g.S.Spool.runs g.S.Spool.open_run g.S.Spool.stake c.args.spools.items)) c.loop-event.core c.answer.new.self (take i events) c.event-item.result c.loop-event.replies.items c.answer.result c.loop-event.invariant.run c.answer.ensures.step c.answer.ensures.full);
+          (run_more (WantedPage (IsFullIntact g.S.Spool.is_full g.S.Spool.is_intact g.S.Spool.runs) g.S.Spool.runs g.S.Spool.open_run g.S.Spool.stake) (opening c.args.live.state (spools_in g.S.Spool.runs g.S.Spool.open_run g.S.Spool.stake c.args.spools.items)) c.loop-event.core c.answer.new.self (take i events) c.event-item.result c.loop-event.replies.items c.answer.result c.loop-event.invariant.run c.answer.ensures.step c.answer.ensures.full);
       room = omega (arith, c.loop-event.invariant.room, c.push_reserved.ensures.capacity);
       count = omega (arith, c.push_reserved.ensures.len, c.push_reserved.new.self.ok, c.loop-event.replies.ok, c.loop-event.invariant.count);
     }
@@ -27,7 +28,7 @@ returns-clause-headline g c =
     let events : List Event = c.args.events.now in
     let start = opening c.args.live.state (spools_in g.S.Spool.runs g.S.Spool.open_run g.S.Spool.stake c.args.spools.items) in
     let all : take c.loop-event.event-index events ≡ events = take_all c.loop-event.event-index events c.loop-event-test.false in
-    let missed : CoreState → Event → Type 0 = WantedPage g.S.Spool.is_full g.S.Spool.runs g.S.Spool.open_run g.S.Spool.stake in
+    let missed : CoreState → Event → Type 0 = WantedPage (IsFullIntact g.S.Spool.is_full g.S.Spool.is_intact g.S.Spool.runs) g.S.Spool.runs g.S.Spool.open_run g.S.Spool.stake in
     let run : Run missed start events c.loop-event.replies.items c.loop-event.core =
     subst (λ (es : List Event). Run missed start es c.loop-event.replies.items c.loop-event.core) all c.loop-event.invariant.run in
     record {
@@ -41,4 +42,4 @@ pub returns-clause-stakes : goal.returns-clause-stakes
 returns-clause-stakes g c =
     let start = opening c.args.live.state (spools_in g.S.Spool.runs g.S.Spool.open_run g.S.Spool.stake c.args.spools.items) in
     c.into_live-live.ensures.stakes
-    ∙ run_stakes (WantedPage g.S.Spool.is_full g.S.Spool.runs g.S.Spool.open_run g.S.Spool.stake) start (take c.loop-event.event-index c.args.events.now) c.loop-event.replies.items c.loop-event.core c.loop-event.invariant.run
+    ∙ run_stakes (WantedPage (IsFullIntact g.S.Spool.is_full g.S.Spool.is_intact g.S.Spool.runs) g.S.Spool.runs g.S.Spool.open_run g.S.Spool.stake) start (take c.loop-event.event-index c.args.events.now) c.loop-event.replies.items c.loop-event.core c.loop-event.invariant.run

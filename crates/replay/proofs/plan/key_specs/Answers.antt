@@ -1,5 +1,4 @@
-use Rattle.std.proofs.Common.{◌≡◌, ◌≢◌, Some, rules, ◌∙◌}
-use Rattle.keybytes.specs.declared.fault.Fault.TheVariants.{Memory}
+use Rattle.std.proofs.Common.{◌≡◌, Some, rules, ◌∙◌}
 use Rattle.replay.specs.Plans.{specs_refusal}
 use Rattle.replay.proofs.SpecLists.{accepted_first, made_more, refused_first}
 use Rattle.replay.proofs.plan.key_specs.Goals as goal
@@ -14,20 +13,18 @@ loop-spec-preserved c =
     let first = c.in-Some.ensures.steps.0 in
     let made = rw first at same in
     let left = rw first at refusal in
-    let one = c.in_ok-key_spec.ensures in
     let spec = c.in-Some.spec in
-    let rest = c.next.new.self.rest.items in
-    let made_one = c.in_ok-key_spec.field-0 in (
+    let rest = c.next.new.self.rest.items in (
       search rules,
       search rules,
-      made_more schema c.args.specs.items rest c.loop-spec.made.items _ spec made_one made (search rules) one.made,
-      left ∙ accepted_first schema spec rest one.accepted,
+      made_more schema c.args.specs.items rest c.loop-spec.made c.in_ok-made.made spec made c.in_ok-made.ensures.made,
+      left ∙ accepted_first schema spec rest c.in_ok-made.ensures.accepted,
     )
 
-pub returns-in_err-key_spec-clause-refused : goal.returns-in_err-key_spec-clause-refused
-returns-in_err-key_spec-clause-refused c =
+pub returns-in_err-made-clause-refused : goal.returns-in_err-made-clause-refused
+returns-in_err-made-clause-refused c =
     let schema = c.args.schema.now in
     let left = rw c.in-Some.ensures.steps.0 at c.loop-spec.invariant.3 in
-    let refused : c.in_err-key_spec.field-0.0 ≢ Memory → specs_refusal schema c.args.specs.items ≡ Some c.in_err-key_spec.field-0.0 =
-    λ other. left ∙ refused_first schema c.in-Some.spec c.next.new.self.rest.items _ c.in_err-key_spec.ensures.refused other in
+    let refused : specs_refusal schema c.args.specs.items ≡ Some c.in_err-made.field-0.0 =
+    left ∙ refused_first schema c.in-Some.spec c.next.new.self.rest.items _ c.in_err-made.ensures.refused in
     search rules

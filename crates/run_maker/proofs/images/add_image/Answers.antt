@@ -21,6 +21,7 @@ loop-slot-init g c = record {
   added = λ i lt made has. adds_none (get_or (map g.S.Spool.runs c.args.spools.now) i []) (get_or c.args.begun.now i []);
   ready = c.requires.ready;
   sorted = λ all. all;
+  intact = λ all. all;
   stakes = refl;
   long_spools = refl;
   long_begun = refl;
@@ -89,6 +90,7 @@ loop-slot-preserved g c =
           (was.added i lt made has) (c.in_ok-add_slot.ensures.added (has.rows slot) shows i lt));
       ready = c.in_ok-add_slot.ensures.ready;
       sorted = λ all. c.add_slot.ensures.sorted (was.sorted all);
+      intact = λ all. c.add_slot.ensures.intact (was.intact all);
       stakes = c.add_slot.ensures.stakes ∙ was.stakes;
       long_spools = omega (arith, c.add_slot.auto.spools, was.long_spools);
       long_begun = omega (arith, c.add_slot.auto.begun, was.long_begun);

@@ -1,12 +1,13 @@
-use Rattle.std.proofs.Common.{◌≡◌, ◌<◌, ◌∙◌, ◌∷◌, ◌++◌, [], refl, ℕ, List, length, get_or, map, set, false, sym, ap, ap₂, subst, arith, Some, None}
+use Rattle.std.proofs.Common.{◌≡◌, ◌<◌, ◌∙◌, ◌++◌, [], refl, ℕ, List, length, get_or, map, set, false, sym, ap, ap₂, subst, arith, Some, None}
 use Rattle.std.specs.Option.{option_to_list}
 use Rattle.std.proofs.Math.Seq.{map-set_same}
 use Rattle.std.proofs.lemmas.List.{get_or_read, get_or_default, length-map, length-set, map-set, set-get_or}
+use Rattle.std.proofs.lemmas.List.Elements.{All-set}
 use Rattle.std.proofs.lemmas.Result.{err_from_is_err_and}
 use Rattle.keybytes.specs.Keys.{KeySpecValue}
 use Rattle.keybytes.specs.Pairs.{pair_with}
 use Rattle.keybytes.specs.declared.pair.Pair.{Pair}
-use Rattle.run_spool.specs.Spools.{AreSorted, NoneEmpty, all_pairs}
+use Rattle.run_spool.specs.Spools.{AreSorted, NoneEmpty, NoneFreed, all_pairs}
 use Rattle.run_maker.specs.Spooling.{Adds}
 use Rattle.run_maker.specs.Making.{AreHeldWithRow, Holdings, spec_at}
 use Rattle.run_maker.proofs.EachIndex.{read_at, holds_at, holds_after, ready_after, reached_none, reached_more}
@@ -31,6 +32,13 @@ returns-in_err-add_key-clause-sorted g c = λ all.
     let was = c.loop-i.invariant.sorted all in
     holds_after AreSorted g.S.Spool.runs c.loop-i.spools c.loop-i.i c.add_key.new.spool
     (c.add_key.ensures.sorted (holds_at AreSorted g.S.Spool.runs c.loop-i.spools c.loop-i.i c.index-spools-i.result inside was)) was
+
+pub returns-in_err-add_key-clause-intact : goal.returns-in_err-add_key-clause-intact
+returns-in_err-add_key-clause-intact g c = λ all.
+    let inside : c.loop-i.i < length c.loop-i.spools = omega (arith, c.loop-i-test.true, c.loop-i.invariant.long_spools, c.requires.spools) in
+    let was = c.loop-i.invariant.intact all in
+    All-set (NoneFreed g.S.Spool.is_intact g.S.Spool.runs) c.loop-i.spools c.loop-i.i c.add_key.new.spool
+    (c.add_key.ensures.intact (was c.loop-i.i c.index-spools-i.result inside)) was
 
 pub returns-in_err-add_key-clause-stakes : goal.returns-in_err-add_key-clause-stakes
 returns-in_err-add_key-clause-stakes g c =
@@ -93,6 +101,7 @@ loop-i-init g c =
       reached = reached_none Made (record { runs = map g.S.Spool.runs c.args.spools.now; begun = c.args.begun.now });
       ready = c.requires.ready;
       sorted = λ all. all;
+      intact = λ all. all;
       stakes = refl;
       long_spools = refl;
       long_begun = refl;
@@ -131,6 +140,9 @@ loop-i-preserved g c =
       sorted = λ all.
           holds_after AreSorted g.S.Spool.runs spools i c.add_key.new.spool
           (c.add_key.ensures.sorted (holds_at AreSorted g.S.Spool.runs spools i d in-spools (was.sorted all))) (was.sorted all);
+      intact = λ all.
+          All-set (NoneFreed g.S.Spool.is_intact g.S.Spool.runs) spools i c.add_key.new.spool (c.add_key.ensures.intact (was.intact all i d in-spools))
+          (was.intact all);
       stakes = map-set_same g.S.Spool.stake spools i c.add_key.new.spool d c.add_key.ensures.stake ∙ was.stakes;
       long_spools = length-set spools i c.add_key.new.spool ∙ was.long_spools;
       long_begun = length-set c.loop-i.begun i c.add_key.new.begun ∙ was.long_begun;

@@ -1,9 +1,10 @@
 use Rattle.std.proofs.Common.{◌≡◌, ◌<◌, ◌∙◌, ◌++◌, [], ℕ, List, length, get_or, map, sym, ap₂, subst, arith}
 use Rattle.std.proofs.Math.Seq.{map-set_same}
 use Rattle.std.proofs.lemmas.List.{get_or_default, length-map, length-set, map-set}
+use Rattle.std.proofs.lemmas.List.Elements.{All-set}
 use Rattle.std.proofs.lemmas.Result.{err_from_is_err_and}
 use Rattle.keybytes.specs.declared.pair.Pair.{Pair}
-use Rattle.run_spool.specs.Spools.{AreSorted, all_pairs}
+use Rattle.run_spool.specs.Spools.{AreSorted, NoneFreed, all_pairs}
 use Rattle.run_maker.specs.Spooling.{Spooled}
 use Rattle.run_maker.specs.Making.{AreHeld}
 use Rattle.run_maker.proofs.EachIndex.{read_at, holds_at, holds_after, ready_after, reached_more}
@@ -24,6 +25,14 @@ returns-in_err-close-clause-sorted g c = λ all.
     let was = c.loop-i.invariant.sorted all in
     holds_after AreSorted g.S.Spool.runs c.loop-i.spools c.loop-i.i c.close.new.spool
     (c.close.ensures.sorted (holds_at AreSorted g.S.Spool.runs c.loop-i.spools c.loop-i.i c.index-spools-i.result inside was)) was
+
+pub returns-in_err-close-clause-intact : goal.returns-in_err-close-clause-intact
+returns-in_err-close-clause-intact g c = λ all.
+    let inside : c.loop-i.i < length c.loop-i.spools =
+    omega (arith, c.loop-i-test.true, c.loop-i.invariant.long_spools, c.loop-i.invariant.long_begun, c.requires.spools) in
+    let was = c.loop-i.invariant.intact all in
+    All-set (NoneFreed g.S.Spool.is_intact g.S.Spool.runs) c.loop-i.spools c.loop-i.i c.close.new.spool
+    (c.close.ensures.intact (was c.loop-i.i c.index-spools-i.result inside)) was
 
 pub returns-in_err-close-clause-stakes : goal.returns-in_err-close-clause-stakes
 returns-in_err-close-clause-stakes g c =
@@ -76,6 +85,9 @@ loop-i-preserved g c =
       sorted = λ all.
           holds_after AreSorted g.S.Spool.runs spools i c.close.new.spool
           (c.close.ensures.sorted (holds_at AreSorted g.S.Spool.runs spools i d in-spools (was.sorted all))) (was.sorted all);
+      intact = λ all.
+          All-set (NoneFreed g.S.Spool.is_intact g.S.Spool.runs) spools i c.close.new.spool (c.close.ensures.intact (was.intact all i d in-spools))
+          (was.intact all);
       stakes = map-set_same g.S.Spool.stake spools i c.close.new.spool d c.close.ensures.stake ∙ was.stakes;
       long_spools = length-set spools i c.close.new.spool ∙ was.long_spools;
       long_begun = length-set begun i c.close.new.self ∙ was.long_begun;

@@ -1,5 +1,5 @@
 use Rattle.std.proofs.Common.{◌≡◌, [], All, length, map}
-use Rattle.run_spool.specs.Spools.{AreSorted}
+use Rattle.run_spool.specs.Spools.{AreSorted, NoneFreed}
 use Rattle.run_maker.specs.Spooling.{Spooled}
 use Rattle.run_maker.specs.Making.{AreReady, Reached}
 use Rattle.run_maker.proofs.sealing.close_all.Given as goal
@@ -10,6 +10,7 @@ invariant-loop-i g l = record {
       (record { runs = map g.S.Spool.runs l.initial.spools; begun = l.initial.begun }) (record { runs = map g.S.Spool.runs l.spools; begun = l.begun });
   ready : AreReady (map g.S.Spool.runs l.spools) (map g.S.Spool.open_run l.spools);
   sorted : All AreSorted (map g.S.Spool.runs l.initial.spools) → All AreSorted (map g.S.Spool.runs l.spools);
+  intact : All (NoneFreed g.S.Spool.is_intact g.S.Spool.runs) l.initial.spools → All (NoneFreed g.S.Spool.is_intact g.S.Spool.runs) l.spools;
   stakes : map g.S.Spool.stake l.spools ≡ map g.S.Spool.stake l.initial.spools;
   long_spools : length l.spools ≡ length l.initial.spools;
   long_begun : length l.begun ≡ length l.initial.begun;

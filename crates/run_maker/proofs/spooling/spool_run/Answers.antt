@@ -1,11 +1,11 @@
-use Rattle.std.proofs.Common.{rules, ◌≡◌, ◌∙◌, [], List, ap, sym, subst}
+use Rattle.std.proofs.Common.{rules, ◌≡◌, ◌∙◌, [], List, ap, sym, subst, inr}
 use Rattle.std.specs.List.Sorted.{IsSorted}
 use Rattle.std.proofs.lemmas.List.{nil_from_length}
 use Rattle.keybytes.specs.Pairs.{pair_cmp}
 use Rattle.keybytes.specs.declared.pair.Pair.{Pair}
 use Rattle.run_spool.specs.Spools.{AreSorted, with_closed_run}
 use Rattle.run_maker.proofs.FullSpools.{stops_at}
-use Rattle.run_maker.proofs.Spoolings.{closed_sorted, moved_all}
+use Rattle.run_maker.proofs.Spoolings.{closed_sorted, moved_all, still_intact}
 use Rattle.run_maker.proofs.spooling.spool_run.Goals as goal
 
 pub returns-clause-sorted : goal.returns-clause-sorted
@@ -18,6 +18,16 @@ returns-clause-sorted g c = λ all.
     let closed = c.end_run.ensures.runs ∙ ap (λ (rs : List (List Pair)). with_closed_run rs run) c.loop-pair.invariant.runs in
     subst AreSorted (sym closed) (closed_sorted (g.S.Spool.runs c.args.spool.now) run (subst (IsSorted pair_cmp) (sym run_is) c.put_in_order.ensures.sorted)
     all)
+
+pub returns-in-Err-clause-intact : goal.returns-in-Err-clause-intact
+returns-in-Err-clause-intact g c =
+    still_intact g.S.Spool.is_intact g.S.Spool.runs c.args.spool.now c.push.new.self (c.push.ensures.runs ∙ c.loop-pair.invariant.runs)
+    (λ intact. c.push.ensures.intact (c.loop-pair.invariant.intact intact))
+
+pub returns-clause-intact : goal.returns-clause-intact
+returns-clause-intact g c = λ free.
+    inr (c.end_run.ensures.intact (still_intact g.S.Spool.is_intact g.S.Spool.runs c.args.spool.now c.loop-pair.spool c.loop-pair.invariant.runs
+    c.loop-pair.invariant.intact free))
 
 pub returns-in-Err-clause-full : goal.returns-in-Err-clause-full
 returns-in-Err-clause-full g c =

@@ -8,7 +8,7 @@ pub loop-preserved : goal.loop-preserved
 loop-preserved g c =
     let told = c.loop.invariant.0 in
     let next = c.in-Some.next in
-    let more = rw c.in-Some.is at c.in_ok-next.ensures in
+    let more = rw c.in-Some.is at c.in_ok-next.ensures.next in
     let comes = rw c.in-NoTable.is at c.in_ok-answered.ensures in (
       told ++ next.record ∷ [],
       gives_more c.args.input.now c.loop.input c.next.new.self told next c.loop.invariant.1 more,
@@ -20,7 +20,7 @@ pub returns-in-Made : goal.returns-in-Made
 returns-in-Made g c =
     let told = c.loop.invariant.0 in
     let next = c.in-Some.next in
-    let more = rw c.in-Some.is at c.in_ok-next.ensures in
+    let more = rw c.in-Some.is at c.in_ok-next.ensures.next in
     let comes = rw c.in-Made.is at c.in_ok-answered.ensures in
     record {
       before = told;
@@ -38,7 +38,7 @@ pub returns-in-Quits : goal.returns-in-Quits
 returns-in-Quits g c =
     let told = c.loop.invariant.0 in
     let next = c.in-Some.next in
-    let more = rw c.in-Some.is at c.in_ok-next.ensures in
+    let more = rw c.in-Some.is at c.in_ok-next.ensures.next in
     let comes = rw c.in-Quits.is at c.in_ok-answered.ensures in (
       told ++ next.record ∷ [],
       finishes_quit c.args.input.now c.next.new.self told next.record

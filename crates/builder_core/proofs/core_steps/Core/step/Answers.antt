@@ -1,4 +1,5 @@
 use Rattle.std.proofs.Common.{Option, length, sym, subst}
+use Rattle.run_spool.specs.Spools.{IsFullIntact}
 use Rattle.build_events.specs.CoreState.{CoreState, BuildState}
 use Rattle.build_events.specs.BuildSteps.{OnBuild}
 use Rattle.build_events.specs.Steps.{Step}
@@ -27,5 +28,5 @@ returns-clause-keys g c = λ number verdicts is.
 
 pub returns-clause-full : goal.returns-clause-full
 returns-clause-full g c =
-    wanted_page g.S.Spool.is_full g.S.Spool.runs g.S.Spool.open_run g.S.Spool.stake c.args.self.now c.args.event c.attempt_own-answer.result c.reply.result c.attempt_own-answer.new.self
+    wanted_page (IsFullIntact g.S.Spool.is_full g.S.Spool.is_intact g.S.Spool.runs) g.S.Spool.runs g.S.Spool.open_run g.S.Spool.stake c.args.self.now c.args.event c.attempt_own-answer.result c.reply.result c.attempt_own-answer.new.self
     c.attempt_own-answer.ensures.answers c.reply.ensures.reply c.attempt_own-answer.ensures.full

@@ -1,4 +1,5 @@
 use Rattle.std.proofs.Common.{ℕ, ◌<◌, ◌≤◌, List, length, map, Option, vec_capacity, refl, sym, ap, subst, arith}
+use Rattle.run_spool.specs.Spools.{IsFullIntact}
 use Rattle.page_workers.specs.SpoolValue.{spool_value}
 use Rattle.page_workers.specs.WorkerValue.{WorkerValue}
 use Rattle.building.specs.BuildingValue.{BuildingValue, WorkValue}
@@ -18,7 +19,7 @@ invariant_of-self g c =
     let after : WorkerValue = c.take-answer.new.self in
     let less : c.args.worker < length workers = omega (arith, c.requires.there, ap (λ (b : BuildingValue). length b.workers) c.self.view_is) in
     let at = at_index workers c.args.worker it c.index_mut.ensures.value less in
-    let stays = same_after spool.is_full spool.runs spool.open_run spool.stake c.args.turn it after c.take-answer.result c.take-answer.ensures.done
+    let stays = same_after (IsFullIntact spool.is_full spool.is_intact spool.runs) spool.runs spool.open_run spool.stake c.args.turn it after c.take-answer.result c.take-answer.ensures.done
     c.take-answer.ensures.stopped in
     let many = as_many_after workers (map value c.self.inside.spools.items) c.args.worker it after at stays.stakes in (
       ends_stay workers c.args.worker it after at stays.ring _ _ c.self.inside.idle.items _ c.self.invariant.0,
@@ -50,4 +51,4 @@ returns-clause-stopped g c =
     let less : c.args.worker < length workers = omega (arith, c.requires.there, ap (λ (b : BuildingValue). length b.workers) c.self.view_is) in
     let at = at_index workers c.args.worker it c.index_mut.ensures.value less in
     stopped_step c.args.turn c.args.self.now _ c.in-Some.work c.in-Some.work c.self.view_is c.in-Some.is refl c.args.worker it c.take-answer.new.self at
-    spool.is_full spool.runs spool.open_run spool.stake c.take-answer.result c.note_fault.new.work c.note_fault.ensures.spoiled c.take-answer.ensures.stopped
+    (IsFullIntact spool.is_full spool.is_intact spool.runs) spool.runs spool.open_run spool.stake c.take-answer.result c.note_fault.new.work c.note_fault.ensures.spoiled c.take-answer.ensures.stopped

@@ -21,6 +21,14 @@ returns-in_err-told-clause-ends g c =
     let told = err_from_is_err_and c.from_residual-in_err-told.result c.from_residual-in_err-told.ensures.1 in
     rw (told.1, told.2) (of_going (λ (s : List KeySpecValue). EndsFor s _) (length specs) specs c.begin_turn.new.building on c.in_err-told.ensures.ends)
 
+pub returns-in_err-told-clause-goes_on : goal.returns-in_err-told-clause-goes_on
+returns-in_err-told-clause-goes_on g c =
+    let specs : List KeySpecValue = c.args.plan.now.specs.items in
+    let on = c.in_ok-begin_turn.ensures.goes_on (length specs) specs c.requires in
+    let told = err_from_is_err_and c.from_residual-in_err-told.result c.from_residual-in_err-told.ensures.1 in
+    rw (told.1, told.2)
+    (λ count busy. c.in_err-told.ensures.goes_on (λ memory. let both = sym busy ∙ memory in absurd (cc)) (length specs) specs on)
+
 pub returns-then-branch-le-SWITCH_MOST-clause-report : goal.returns-then-branch-le-SWITCH_MOST-clause-report
 returns-then-branch-le-SWITCH_MOST-clause-report g c =
     let specs : List KeySpecValue = c.args.plan.now.specs.items in

@@ -1,4 +1,5 @@
 use Rattle.std.proofs.Common.{◌∙◌, refl, sym, subst}
+use Rattle.run_spool.specs.Spools.{IsFullIntact}
 use Rattle.std.specs.Prelude.{IfOk, IfErr, IsSome}
 use Rattle.build_events.specs.CoreState.{CoreState}
 use Rattle.live_lemmas.specs.Builds.{LiveValue, core_state}
@@ -34,10 +35,10 @@ returns-clause-refused g c =
     let live : LiveValue = c.look.new.self in
     let building : BuildingValue = c.look.new.building in
     let run = runs_looked c.args.self.now live c.args.building.now building may.build may.work c.look.ensures.looked may.runs in
-    subst (λ (s : CoreState). IfErr c.take.result (λ fault. IsTurnRefused spool.is_full spool.runs spool.open_run spool.stake c.args.turn c.args.worker s fault (core_state live c.take.new.self)))
+    subst (λ (s : CoreState). IfErr c.take.result (λ fault. IsTurnRefused (IsFullIntact spool.is_full spool.is_intact spool.runs) spool.runs spool.open_run spool.stake c.args.turn c.args.worker s fault (core_state live c.take.new.self)))
     (state_looked c.args.self.now live c.args.building.now building c.look.ensures.looked)
     (refused_after live building c.take.new.self may.build may.work run may.fine (put_of live may.build run.build_is c.look.ensures.put) c.args.worker c.look.result
-    c.look.ensures.sees c.args.turn spool.is_full spool.runs spool.open_run spool.stake c.look.ensures.pages g.T.TableRings.pages c.laws.ensures.each c.take.result c.take.ensures.stopped)
+    c.look.ensures.sees c.args.turn (IsFullIntact spool.is_full spool.is_intact spool.runs) spool.runs spool.open_run spool.stake c.look.ensures.pages g.T.TableRings.pages c.laws.ensures.each c.take.result c.take.ensures.stopped)
 
 pub returns-clause-works : goal.returns-clause-works
 returns-clause-works g c =
@@ -47,7 +48,7 @@ returns-clause-works g c =
     let building : BuildingValue = c.look.new.building in
     let run = runs_looked c.args.self.now live c.args.building.now building may.build may.work c.look.ensures.looked may.runs in
     works_after_turn live building c.take.new.self may.build may.work run may.fine (put_of live may.build run.build_is c.look.ensures.put) c.args.worker c.look.result
-    c.look.ensures.sees c.args.turn spool.is_full spool.runs spool.open_run spool.stake c.look.ensures.pages g.T.TableRings.pages c.laws.ensures.each c.take.result c.take.ensures.did c.take.ensures.stopped
+    c.look.ensures.sees c.args.turn (IsFullIntact spool.is_full spool.is_intact spool.runs) spool.runs spool.open_run spool.stake c.look.ensures.pages g.T.TableRings.pages c.laws.ensures.each c.take.result c.take.ensures.did c.take.ensures.stopped
 
 pub returns-clause-ends : goal.returns-clause-ends
 returns-clause-ends g c = ends_looked _ _ _ _ c.look.ensures.looked

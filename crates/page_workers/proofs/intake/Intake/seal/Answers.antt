@@ -21,6 +21,7 @@ loop-init g c = record {
   holds = takes_nothing c.args.maker.now.specs [] (record { runs = map g.S.Spool.runs c.args.spools.now; begun = c.args.maker.now.begun }) refl;
   ready = c.requires.ready;
   sorted = λ all. all;
+  intact = λ all. all;
   stakes = refl;
   schema = refl;
   specs = refl;
@@ -149,6 +150,7 @@ loop-preserved g c =
           (takes_more specs (next_images n kinds worker) (next_images 1 kinds c.loop.self) start middle after was.holds then);
       ready = c.in_ok-images.ensures.ready;
       sorted = λ all. c.digest.ensures.sorted (was.sorted all);
+      intact = λ all. c.digest.ensures.intact (was.intact all);
       stakes = c.digest.ensures.stakes ∙ was.stakes;
       schema = c.digest.ensures.schema ∙ was.schema;
       specs = c.digest.ensures.specs ∙ was.specs;

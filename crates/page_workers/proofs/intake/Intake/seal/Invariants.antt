@@ -1,6 +1,6 @@
 use Rattle.std.proofs.Common.{◌≡◌, All, length, map}
 use Rattle.heap_table.specs.Images.{IsReadable}
-use Rattle.run_spool.specs.Spools.{AreSorted}
+use Rattle.run_spool.specs.Spools.{AreSorted, NoneFreed}
 use Rattle.run_maker.specs.Making.{AreReady}
 use Rattle.page_workers.specs.Holding.{TakesAll}
 use Rattle.page_workers.specs.Work.{next_images, after_digest}
@@ -14,6 +14,7 @@ invariant-loop g l = record {
       (record { runs = map g.S.Spool.runs l.spools; begun = l.maker.begun });
   ready : AreReady (map g.S.Spool.runs l.spools) (map g.S.Spool.open_run l.spools);
   sorted : All AreSorted (map g.S.Spool.runs l.initial.spools) → All AreSorted (map g.S.Spool.runs l.spools);
+  intact : All (NoneFreed g.S.Spool.is_intact g.S.Spool.runs) l.initial.spools → All (NoneFreed g.S.Spool.is_intact g.S.Spool.runs) l.spools;
   stakes : map g.S.Spool.stake l.spools ≡ map g.S.Spool.stake l.initial.spools;
   schema : l.maker.schema ≡ l.initial.maker.schema;
   specs : l.maker.specs ≡ l.initial.maker.specs;

@@ -1,7 +1,8 @@
 use Rattle.std.proofs.Common.{◌≡◌, ◌∙◌, ◌++◌, List, All, drop, length, map, take, Some, refl, subst, sym, ap}
 use Rattle.std.proofs.lemmas.Bool.{false≢true}
-use Rattle.run_spool.specs.Spools.{AreSorted}
+use Rattle.run_spool.specs.Spools.{AreSorted, IsFullIntact, NoneFreed}
 use Rattle.run_maker.specs.Making.{AreReady}
+use Rattle.run_maker.proofs.FullSpools.{full_intact}
 use Rattle.page_workers.specs.Turns.{HasDone, IsStopped, TurnHolds, least_pairs, turn_images}
 use Rattle.page_workers.specs.WorkerValue.{WorkerValue}
 use Rattle.page_workers.proofs.SpoolViews.{lent_back, part_held, received_full, same_after, spools_ready, turn_held, turn_seen, values_ready, worker_with}
@@ -31,6 +32,7 @@ invariant_of-self-in-Ok g c =
     (record { runs = map g.S.Spool.runs spools; begun = maker.begun }) =
     subst (λ (old : List _). TurnHolds c.args.turn at.maker.specs (turn_images c.args.turn at.maker.schema at.intake) (record { runs = map g.S.Spool.runs old; begun = at.maker.begun })
     (record { runs = map g.S.Spool.runs spools; begun = maker.begun })) lent it.holds in
+    let intact = c.take.ensures.intact (subst (All (NoneFreed g.S.Spool.is_intact g.S.Spool.runs)) (sym lent) c.self.invariant.4) in
     rw back (
       c.self.invariant.0,
       (λ sound. turn_counts c.args.turn at.maker maker at.intake after c.take.ensures.schema it.taken (c.self.invariant.1 sound)),
@@ -39,6 +41,7 @@ invariant_of-self-in-Ok g c =
           (c.self.invariant.2 sound kept) it.readable c.take.ensures.specs c.take.ensures.schema c.laws.ensures.specs many it.ready sorted it.taken holds
           c.laws.ensures.short it.closed),
       (λ handed. absurd (false≢true (sym c.if-self.false ∙ handed))),
+      intact,
     )
 
 pub returns-in-Ok-clause-done : goal.returns-in-Ok-clause-done
@@ -78,9 +81,11 @@ returns-in-Err-clause-stopped g c =
     let stakes : map spool.stake spools ≡ map spool.stake at.spools.items = c.take.ensures.stakes ∙ ap (map spool.stake) c.deref_mut.ensures.value in
     let holds = c.self.invariant.2 c.in_default.is c.if-self.false in
     let many : length spools ≡ length at.spools.items = c.take.auto.spools ∙ ap length c.deref_mut.ensures.value in
+    let is_full = IsFullIntact spool.is_full spool.is_intact spool.runs in
+    let intact = c.take.ensures.intact (subst (All (NoneFreed spool.is_intact spool.runs)) (sym c.deref_mut.ensures.value) c.self.invariant.4) in
     let new = worker_with spool.runs spool.open_run spool.stake at.number after maker (take at.spools.len (spools ++ drop (length spools) at.spools.items)) at.handed
     (Some c.in-Err.fault) in
-    subst (λ (w : WorkerValue). IsStopped spool.is_full spool.runs spool.open_run spool.stake c.args.turn w c.in-Err.fault new) c.self.view_is (record {
+    subst (λ (w : WorkerValue). IsStopped is_full spool.runs spool.open_run spool.stake c.args.turn w c.in-Err.fault new) c.self.view_is (record {
       same = same_after spool.runs spool.open_run spool.stake at.number at.spools.len at.intake after at.maker maker at.spools.items spools at.handed at.fault
           (Some c.in-Err.fault) c.take.ensures.build c.take.ensures.ring c.take.ensures.schema c.take.ensures.specs long stakes;
       stopped = refl;
@@ -89,8 +94,9 @@ returns-in-Err-clause-stopped g c =
       has_spools = λ sound. c.if-self.false;
       took = λ sound. it.took;
       full = λ sound no_page.
-          rw back (received_full spool.runs spool.open_run spool.stake spool.is_full (least_pairs c.args.turn) at.intake after at.maker maker at.spools.items c.deref_mut.result.now spools holds
-          c.deref_mut.ensures.value c.take.ensures.specs c.take.ensures.schema c.take.ensures.build many (it.full no_page));
+          rw back (received_full spool.runs spool.open_run spool.stake is_full (least_pairs c.args.turn) at.intake after at.maker maker at.spools.items c.deref_mut.result.now spools holds
+          c.deref_mut.ensures.value c.take.ensures.specs c.take.ensures.schema c.take.ensures.build many
+          (full_intact spool.is_full spool.runs spool.open_run spool.is_intact (least_pairs c.args.turn) _ _ spools intact (it.full no_page)));
       want = λ sound memory. rw back (values_ready spool.runs spool.open_run spool.stake spools (it.want memory));
       part = λ sound memory. rw back
           (part_held spool.runs spool.open_run spool.stake at.intake after at.maker maker at.spools.items c.deref_mut.result.now spools c.deref_mut.ensures.value

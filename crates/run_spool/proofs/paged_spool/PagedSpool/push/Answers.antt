@@ -1,7 +1,8 @@
-use Rattle.std.proofs.Common.{◌≡◌, ◌∙◌, ◌++◌, ◌∷◌, [], List, length, ap, sym, subst, rules, arith}
+use Rattle.std.proofs.Common.{◌≡◌, ◌<◌, ◌∙◌, ◌++◌, ◌∷◌, [], List, length, ap, sym, subst, rules, arith, inl, inr, false, true}
 use Rattle.std.proofs.lemmas.List.{length-drop}
+use Rattle.std.proofs.lemmas.Bool.{cases_lt}
 use Rattle.keybytes.specs.declared.pair.Pair.{Pair}
-use Rattle.run_spool.specs.Pages.{PageValue, last_key, page_with}
+use Rattle.run_spool.specs.Pages.{PageValue, last_key, page_with, size_on}
 use Rattle.run_spool.specs.Runs.{last_of}
 use Rattle.run_spool.specs.PagedSpools.{PagedSpoolValue}
 use Rattle.run_spool.specs.Spools.{NoneEmpty}
@@ -29,11 +30,16 @@ invariant_of-self-2 g c =
     elim c.if-not-push.branch [
       | then-not-push+in-Ok w ↦
           let spare_is = i.spare_is in
+          let none : (last_of c.self.inside.open_run).room < size_on size (last_of c.self.inside.open_run) pair =
+              elim (cases_lt (last_of c.self.inside.open_run).room (size_on size (last_of c.self.inside.open_run) pair)) [
+                | inl less ↦ less
+                | inr fits ↦ (let wrong : false ≡ true = w.if-not-push.ensures.fits.1 fits in cc)
+              ] in
           let there = w.in-Ok.ensures.exact.0 (search rules) in
           let some = subst NoneEmpty (sym (ap (λ (s : PagedSpoolValue). s.runs) c.self.view_is)) c.requires in
           let left = ap (λ (xs : List PageValue). length xs) w.add_page.ensures.spare in
           rw w.self-inside-is
-          (pushed_new pair w.lease.new.self (length w.add_page.new.spare) w.add_page.new.self i w.add_page.ensures.fits some
+          (pushed_new pair w.lease.new.self (length w.add_page.new.spare) w.add_page.new.self i w.add_page.ensures.fits none some
           there w.in-Ok.ensures.ok (omega (arith, length-drop 1 c.self.inside.spare))
           (w.add_page.ensures.chain ∙ ap (λ (run : List PageValue). run ++ page_with size pair ∷ []) w.if-not-push.ensures.chain))
       | else-not-push w ↦
