@@ -31,10 +31,10 @@ invariant_of-self-2 g c =
       | then-not-push+in-Ok w ↦
           let spare_is = i.spare_is in
           let none : (last_of c.self.inside.open_run).room < size_on size (last_of c.self.inside.open_run) pair =
-              elim (cases_lt (last_of c.self.inside.open_run).room (size_on size (last_of c.self.inside.open_run) pair)) [
-                | inl less ↦ less
-                | inr fits ↦ (let wrong : false ≡ true = w.if-not-push.ensures.fits.1 fits in cc)
-              ] in
+          elim (cases_lt (last_of c.self.inside.open_run).room (size_on size (last_of c.self.inside.open_run) pair)) [
+            | inl less ↦ less
+            | inr fits ↦ (let wrong : false ≡ true = w.if-not-push.ensures.fits.1 fits in cc)
+          ] in
           let there = w.in-Ok.ensures.exact.0 (search rules) in
           let some = subst NoneEmpty (sym (ap (λ (s : PagedSpoolValue). s.runs) c.self.view_is)) c.requires in
           let left = ap (λ (xs : List PageValue). length xs) w.add_page.ensures.spare in
