@@ -80,6 +80,10 @@ module _ {S : Type 0} (runs : S → List (List Pair)) (open_run : S → List Pai
   pub spools_ready : (spools : List S) → AreReady (runs_of (values spools)) (open_runs_of (values spools)) → AreReady (map runs spools) (map open_run spools)
   spools_ready spools ready = rw (value_runs spools, value_open_runs spools) at ready
 
+  -- and those whose runs are seen to be in order
+  pub spools_sorted : (spools : List S) → All AreSorted (runs_of (values spools)) → All AreSorted (map runs spools)
+  spools_sorted spools sorted = rw (value_runs spools) at sorted
+
   -- what is held in spools that were lent, as it is seen
   seen_held :
       (R : Holdings → Holdings → Type 0) (maker new : MakerValue) (spools lent new_spools : List S) → lent ≡ spools
@@ -161,7 +165,7 @@ module _ {S : Type 0} (runs : S → List (List Pair)) (open_run : S → List Pai
     many_values = length-map new_spools (spool_value runs open_run stake) ∙ (many ∙ sym (length-map spools (spool_value runs open_run stake)))
 
     sorted_values : All AreSorted (runs_of (values new_spools))
-    sorted_values = rw (value_runs new_spools) (sorted (rw (value_runs spools) at holds.sorted))
+    sorted_values = rw (value_runs new_spools) (sorted (spools_sorted spools holds.sorted))
 
     -- after a digest
     digest_held :

@@ -5,7 +5,7 @@ use Rattle.spool_ledger.specs.Accounts.{AccountValue}
 use Rattle.run_spool.specs.PagedSpools.{PagedSpoolValue, new_spool}
 use Rattle.run_spool.specs.Choices.{kind_at, kinds_from}
 use Rattle.run_spool.specs.declared.choice.SpoolChoice.{SpoolChoice}
-use Rattle.run_spool.specs.declared.kind.SpoolKind.{SpoolKind}
+use Rattle.spool_ledger.specs.declared.kind.SpoolKind.{SpoolKind}
 use Rattle.prefix_spool.specs.declared.either.SpoolOfKind.{SpoolOfKind}
 use Rattle.prefix_spool.specs.Kinds.{inside, kind_of}
 

@@ -3,8 +3,8 @@ use Rattle.keybytes.specs.declared.pair.Pair.{Pair}
 use Rattle.run_spool.specs.PagedSpools.{PagedSpoolValue, IsFullSpool, IsIntact}
 use Rattle.run_spool.specs.PlainPages.{plain_size}
 use Rattle.prefix_spool.specs.PrefixBytes.{prefix_size}
-use Rattle.run_spool.specs.declared.kind.SpoolKind.{SpoolKind}
-use Rattle.run_spool.specs.declared.kind.SpoolKind.TheVariants as kind
+use Rattle.spool_ledger.specs.declared.kind.SpoolKind.{SpoolKind}
+use Rattle.spool_ledger.specs.declared.kind.SpoolKind.TheVariants as kind
 use Rattle.prefix_spool.specs.declared.either.SpoolOfKind.{SpoolOfKind}
 use Rattle.prefix_spool.specs.declared.either.SpoolOfKind.TheVariants.{Plain, Prefix}
 

@@ -17,7 +17,7 @@ impl Spool for SpoolOfKind {
     ghost use Rattle.spool_ledger.specs.Accounts.{IsWhole, stake_of};
     ghost use Rattle.run_spool.specs.Runs.{pairs_of};
     ghost use Rattle.run_spool.specs.PagedSpools.{runs_of, leased_pages};
-    ghost use Rattle.prefix_spool.specs.Kinds.{inside, IsFullOfKind, IsIntactOfKind};
+    ghost use Rattle.prefix_spool.specs.Kinds.{inside, kind_of, IsFullOfKind, IsIntactOfKind};
 
     ghost runs = { λ spool. runs_of (inside spool) };
 
@@ -31,7 +31,7 @@ impl Spool for SpoolOfKind {
 
     ghost pages = { λ spool. leased_pages (inside spool) };
 
-    ghost stake = { λ spool. Some (stake_of (inside spool).account) };
+    ghost stake = { λ spool. Some (stake_of (kind_of spool) (inside spool).account) };
 
     fn is_empty(&self) -> bool {
         match self {

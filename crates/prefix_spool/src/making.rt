@@ -7,8 +7,8 @@ ghost use Rattle.prefix_spool.specs.Kinds.{inside, kind_of};
 
 use crate::{PrefixSpool, SpoolOfKind};
 use keybytes::Fault;
-use run_spool::{PlainSpool, SpoolChoice, SpoolKind};
-use spool_ledger::Account;
+use run_spool::{PlainSpool, SpoolChoice};
+use spool_ledger::{Account, SpoolKind};
 use std::alloc::Global;
 
 /// A spool of that kind with no run. An `Err` gives the account back.

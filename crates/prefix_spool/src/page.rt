@@ -33,8 +33,11 @@ impl Model for PrefixPage {
 impl PageOfPairs for PrefixPage {
     ghost use Rattle.std.proofs.Common.{arith};
     ghost use Rattle.prefix_spool.specs.PrefixBytes.{prefix_size};
+    ghost use Rattle.spool_ledger.specs.declared.kind.SpoolKind.TheVariants.{Prefix};
 
     ghost value = { λ page. page };
+
+    ghost kind = { Prefix };
 
     ghost pair_size = { prefix_size };
 

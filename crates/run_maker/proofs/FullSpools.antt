@@ -1,11 +1,13 @@
 -- A spool that is full of pairs that were given for it.
-use Rattle.std.proofs.Common.{All, ◌≡◌, ◌<◌, ◌≤◌, ◌+◌, get_or, ℕ, List, [], ◌∷◌, ◌++◌, append_assoc, append-nil, length, length-append, reverse, set, Some, sym, ap, ◌∙◌, subst, arith}
+use Rattle.std.proofs.Common.{All, ◌≡◌, ◌<◌, ◌≤◌, ◌+◌, get_or, ℕ, List, [], ◌∷◌, ◌++◌, append_assoc, append-nil, length, length-append, length-map, map, reverse, set, Some, sym, ap, ◌∙◌, subst, arith}
 use Rattle.std.specs.Prelude.{IsPermutation}
-use Rattle.std.proofs.lemmas.List.{get_or-set_same, length-set, reverse-append, reverse-reverse}
+use Rattle.std.specs.List.Sorted.{IsSorted}
+use Rattle.keybytes.specs.Pairs.{pair_cmp}
+use Rattle.std.proofs.lemmas.List.{get_or_append_left, get_or-map, get_or-set_same, length-set, reverse-append, reverse-reverse}
 use Rattle.std.proofs.lemmas.List.Sorted.{IsPermutation-append_left, IsPermutation-append_right, IsPermutation-refl, IsPermutation-sym, IsPermutation-trans, length_permutation}
 use Rattle.std.proofs.lemmas.Option.{get_or_from_slice_get, slice_get-get_or, slice_get_within}
 use Rattle.keybytes.specs.declared.pair.Pair.{Pair}
-use Rattle.run_spool.specs.Spools.{IsFullIntact, NoneFreed, all_pairs}
+use Rattle.run_spool.specs.Spools.{AreSorted, IsFullIntact, NoneFreed, all_pairs}
 use Rattle.run_maker.specs.FullSpools.{AreSomeOf, HasFullOf, IsFullOf, WantsRun}
 use Rattle.run_maker.specs.Spooling.{HasFullRunsMore}
 use Rattle.run_maker.proofs.Spoolings.{no_runs, runs_more}
@@ -26,6 +28,13 @@ some_of_some some more all first then = (
       (IsPermutation-trans _ _ _ (IsPermutation-append_left then.0 (some ++ first.0) more first.1) then.1),
 )
 
+-- the first of some pairs are in order if all are
+sorted_front : (front rest : List Pair) → IsSorted pair_cmp (front ++ rest) → IsSorted pair_cmp front
+sorted_front front rest up = λ k d low less.
+    let second : get_or (front ++ rest) (k + 1) d ≡ get_or front (k + 1) d = get_or_append_left front rest d (k + 1) less in
+    let first : get_or (front ++ rest) k d ≡ get_or front k d = get_or_append_left front rest d k (omega (arith, less)) in
+    rw (sym second, sym first) (up k d low (omega (arith, less, length-append front rest)))
+
 -- a run that is spooled in order stops at a pair: those before it are in the open run, and those behind it are left
 pub stops_at :
     (old now : List (List Pair)) (pairs sorted turned run begun left rest : List Pair) (pair : Pair) → now ≡ old → begun ≡ run → IsPermutation pairs sorted
@@ -41,6 +50,16 @@ stops_at old now pairs sorted turned run begun left rest pair same_runs same_run
       reverse rest,
       subst (λ (ps : List Pair). IsPermutation ps (held ++ pairs)) (sym all) (IsPermutation-append_right held sorted pairs (IsPermutation-sym pairs sorted same)),
     )
+
+-- those before it and that pair stand in the order of the run
+pub stops_in_order :
+    (sorted turned run begun left rest : List Pair) (pair : Pair) → begun ≡ run → IsSorted pair_cmp sorted → turned ≡ reverse sorted
+    → run ++ reverse left ≡ reverse turned → left ≡ rest ++ pair ∷ [] → IsSorted pair_cmp (begun ++ pair ∷ [])
+stops_in_order sorted turned run begun left rest pair same_run up is moved last =
+    let in_order : run ++ pair ∷ reverse rest ≡ sorted =
+    ap (λ (ps : List Pair). run ++ ps) (sym (ap reverse last ∙ reverse-append rest (pair ∷ []))) ∙ moved ∙ ap reverse is ∙ reverse-reverse sorted in
+    let all : (run ++ pair ∷ []) ++ reverse rest ≡ sorted = append_assoc run (pair ∷ []) (reverse rest) ∙ in_order in
+    rw same_run (sorted_front (run ++ pair ∷ []) (reverse rest) (subst (IsSorted pair_cmp) (sym all) up))
 
 -- so many of the pairs of a spool that closed no run are in none
 pub wants_run :
@@ -75,24 +94,27 @@ wants_of_more least lower start middle pairs more now less before some wants = r
 module _ {S : Type 0} (is_full : S → Pair → Type 0) (runs : S → List (List Pair)) (open_run : S → List Pair) where
   -- the pairs are some of more
   pub full_of_more : (pairs more : List Pair) (spool : S) → AreSomeOf pairs more → IsFullOf is_full runs open_run pairs spool → IsFullOf is_full runs open_run more spool
-  full_of_more pairs more spool some is = record { pair = is.pair; held = some_of_some _ pairs more is.held some; full = is.full }
+  full_of_more pairs more spool some is = record { pair = is.pair; held = some_of_some _ pairs more is.held some; in_order = is.in_order; full = is.full }
 
-  -- and no pair of it was freed, as of none of them
+  -- and no pair of it was freed, and its runs are in order, as with all of them
   pub full_intact :
       (is_intact : S → Type 0) (least : ℕ) (old : List (List (List Pair))) (given : ℕ → List Pair → Type 0) (spools : List S)
-      → All (NoneFreed is_intact runs) spools → HasFullOf is_full runs open_run least old given spools
+      → All (NoneFreed is_intact runs) spools → All AreSorted (map runs spools) → HasFullOf is_full runs open_run least old given spools
       → HasFullOf (IsFullIntact is_full is_intact runs) runs open_run least old given spools
-  full_intact is_intact least old given spools none has =
+  full_intact is_intact least old given spools none sorted has =
       let within = slice_get_within spools has.index has.spool has.there in
       let free : NoneFreed is_intact runs has.spool =
       subst (NoneFreed is_intact runs) (get_or_from_slice_get spools has.index has.spool has.spool has.there) (none has.index has.spool within) in
+      let up : AreSorted (runs has.spool) =
+      subst AreSorted (get_or-map runs spools has.index has.spool [] within ∙ ap runs (get_or_from_slice_get spools has.index has.spool has.spool has.there))
+      (sorted has.index [] (omega (arith, within, length-map spools runs))) in
       record {
         index = has.index;
         spool = has.spool;
         there = has.there;
         pairs = has.pairs;
         given = has.given;
-        full = record { pair = has.full.pair; held = has.full.held; full = (has.full.full, free) };
+        full = record { pair = has.full.pair; held = has.full.held; in_order = has.full.in_order; full = (has.full.full, free, up) };
         wants = has.wants;
       }
 

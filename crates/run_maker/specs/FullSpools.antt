@@ -1,6 +1,8 @@
 -- Spools that have no room left.
 use Rattle.std.specs.Prelude.{◌≡◌, ◌≤◌, ◌+◌, ℕ, [], ◌∷◌, ◌++◌, List, IsPermutation, Some, get_or, length}
 use Rattle.std.specs.List.{slice_get}
+use Rattle.std.specs.List.Sorted.{IsSorted}
+use Rattle.keybytes.specs.Pairs.{pair_cmp}
 use Rattle.keybytes.specs.declared.pair.Pair.{Pair}
 use Rattle.run_spool.specs.Spools.{all_pairs}
 use Rattle.run_maker.specs.Spooling.{HasFullRunsMore}
@@ -15,10 +17,12 @@ pub record WantsRun (least : ℕ) (old : List (List Pair)) (pairs : List Pair) (
   pub left : length (all_pairs now) + least ≤ length pairs
 
 module _ {S : Type 0} (is_full : S → Pair → Type 0) (runs : S → List (List Pair)) (open_run : S → List Pair) where
-  -- a spool is full of these pairs: it holds some of them and nothing else, and has no room left for one more of them
+  -- a spool is full of these pairs: it holds some of them and nothing else, and has no room left for one more of them, which comes behind
+  -- those of its open run
   pub record IsFullOf (pairs : List Pair) (spool : S) : Type 0 where
     pub pair : Pair
     pub held : AreSomeOf ((all_pairs (runs spool) ++ open_run spool) ++ pair ∷ []) pairs
+    pub in_order : IsSorted pair_cmp (open_run spool ++ pair ∷ [])
     pub full : is_full spool pair
 
   -- one of these spools, which had the old runs, is full of the pairs that are given for its index, and another run of so many was to be closed

@@ -2,8 +2,8 @@
 use Rattle.std.specs.Prelude.{ℕ, zero, suc, ◌==◌, ◌%◌, if◌then◌else◌, List, [], ◌∷◌}
 use Rattle.run_spool.specs.declared.choice.SpoolChoice.{SpoolChoice}
 use Rattle.run_spool.specs.declared.choice.SpoolChoice.TheVariants as choice
-use Rattle.run_spool.specs.declared.kind.SpoolKind.{SpoolKind}
-use Rattle.run_spool.specs.declared.kind.SpoolKind.TheVariants.{Plain, Prefix}
+use Rattle.spool_ledger.specs.declared.kind.SpoolKind.{SpoolKind}
+use Rattle.spool_ledger.specs.declared.kind.SpoolKind.TheVariants.{Plain, Prefix}
 
 -- the kind of the spool of that number: of mixed spools those with even numbers are plain
 abbrev pub kind_at : SpoolChoice → ℕ → SpoolKind

@@ -1,7 +1,7 @@
 ghost use Rattle.std.specs.Prelude.{◌≡◌};
 ghost use Rattle.run_spool.specs.Choices.{kind_at};
 
-use crate::SpoolKind;
+use spool_ledger::SpoolKind;
 
 /// The kinds of the spools of a build.
 #[derive(Clone, Copy)]

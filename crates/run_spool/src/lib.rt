@@ -12,7 +12,7 @@
 //! A paged spool takes all its memory when it is made, but for keys that are read: pages move from frame to frame, and no frame
 //! or run needs memory later on.
 //!
-//! Which kind of pages a build's spools have may be chosen when it starts: a [`SpoolChoice`] gives each spool, by its number, a [`SpoolKind`].
+//! Which kind of pages a build's spools have may be chosen when it starts: a [`SpoolChoice`] gives each spool, by its number, a [`SpoolKind`](spool_ledger::SpoolKind).
 #![tactic(auto)]
 
 mod area;
@@ -20,7 +20,6 @@ mod boxed;
 mod chain;
 mod choice;
 mod giving_up;
-mod kind;
 mod many;
 mod marks;
 mod page_of_pairs;
@@ -32,7 +31,6 @@ mod spool;
 
 pub use choice::SpoolChoice;
 pub use giving_up::{give_up, give_up_all};
-pub use kind::SpoolKind;
 pub use many::{are_empty, end_all};
 pub use page_of_pairs::PageOfPairs;
 pub use paged_spool::PagedSpool;

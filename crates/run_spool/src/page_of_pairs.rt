@@ -1,5 +1,6 @@
 ghost use Rattle.std.specs.Prelude.{◌≡◌, ◌<◌, ◌≤◌, ◌↔◌, ℕ, List, [], length, if◌then◌else◌, IfOk, IfErr, IsTrue};
 ghost use Rattle.keybytes.specs.declared.pair.Pair.{Pair};
+ghost use Rattle.spool_ledger.specs.declared.kind.SpoolKind.{SpoolKind};
 ghost use Rattle.run_spool.specs.Pages.{PageValue, IsPairAt, last_key, page_with, with_pair, without_first};
 
 use keybytes::{Fault, Key, Pair, Rid};
@@ -11,6 +12,9 @@ use std::alloc::Global;
 pub trait PageOfPairs: Drop {
     /// The pairs that aren't freed, and how many bytes behind them are free.
     ghost value: { Self → PageValue };
+
+    /// How a spool with such pages keeps its pairs.
+    ghost kind: { SpoolKind };
 
     /// How many bytes a pair takes behind a key, which is empty for the first pair of a page.
     ghost pair_size: { List ℕ → Pair → ℕ };

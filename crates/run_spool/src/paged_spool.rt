@@ -226,7 +226,7 @@ impl<P: PageOfPairs> Spool for PagedSpool<P> {
 
     ghost pages = { leased_pages };
 
-    ghost stake = { λ spool. Some (stake_of spool.account) };
+    ghost stake = { λ spool. Some (stake_of P.kind spool.account) };
 
     fn is_empty(&self) -> bool {
         PagedSpool::is_empty(self)

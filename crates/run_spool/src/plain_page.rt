@@ -29,9 +29,12 @@ impl Model for PlainPage {
 
 impl PageOfPairs for PlainPage {
     ghost use Rattle.run_spool.specs.PlainPages.{plain_size};
+    ghost use Rattle.spool_ledger.specs.declared.kind.SpoolKind.TheVariants.{Plain};
     ghost use Rattle.std.proofs.Common.{arith};
 
     ghost value = { λ page. page };
+
+    ghost kind = { Plain };
 
     ghost pair_size = { plain_size };
 

@@ -1,7 +1,7 @@
 ghost use Rattle.std.specs.Prelude.{◌≡◌, ℕ, ◌+◌, ◌<◌, ◌≤◌, ◌++◌, ◌∷◌, ◌↔◌, [], List, length, drop, get_or, set};
-ghost use Rattle.std.specs.Prelude.{Option, Some, None, MatchOption, IfOk, IfErr, OnOk, OnErr, IsOk, IsTrue};
+ghost use Rattle.std.specs.Prelude.{Option, MatchOption, option_map, IfOk, IfErr, OnOk, OnErr, IsOk, IsTrue};
 ghost use Rattle.keybytes.specs.declared.pair.Pair.{Pair};
-ghost use Rattle.spool_ledger.specs.Accounts.{IsWhole, Stake, stake_of};
+ghost use Rattle.spool_ledger.specs.Accounts.{IsWhole, Stake, share_in, share_of};
 ghost use Rattle.run_spool.specs.Pages.{IsPairAt};
 ghost use Rattle.run_spool.specs.Spools.{NoneEmpty, NoneFreed, with_closed_run, without_pages};
 
@@ -28,7 +28,7 @@ pub trait Spool: Drop {
     /// How many pages are leased.
     ghost pages: { Self → ℕ };
 
-    /// Pool and quota of the account behind the spool, if there is one.
+    /// How it keeps its pairs, with pool and quota of the account behind it, if there is one.
     ghost stake: { Self → Option Stake };
 
     /// Whether there is no closed run, not even one whose pairs are all freed, and no pair in the open run.
@@ -98,7 +98,7 @@ pub trait Spool: Drop {
     /// Hands over the account behind the spool, if there is one, and keeps one with no page.
     fn take_account(&mut self) -> Option<Account>
         requires { ended self.old }
-        ensures stake { MatchOption result (stake self.old ≡ None) (λ account. stake self.old ≡ Some (stake_of account)) }
+        ensures share { option_map share_in (stake self.old) ≡ option_map share_of result }
         ensures whole { MatchOption result (Unit {0}) IsWhole }
         ensures left { stake self.new ≡ without_pages (stake self.old) }
         ensures ended { ended self.new };

@@ -1,5 +1,6 @@
 -- What an account stands for.
 use Rattle.std.specs.Prelude.{◌≡◌, ℕ, ◌-◌, ◌≤◌}
+use Rattle.spool_ledger.specs.declared.kind.SpoolKind.{SpoolKind}
 
 -- pages of the pool with a number: `free` of `quota` aren't leased
 pub record AccountValue : Type 0 where
@@ -8,12 +9,24 @@ pub record AccountValue : Type 0 where
   pub free : ℕ
 
 -- whose pages they are, and how many: what no lease changes
-pub record Stake : Type 0 where
+pub record Share : Type 0 where
   pub pool : ℕ
   pub quota : ℕ
 
-abbrev pub stake_of : AccountValue → Stake
-stake_of account = record { pool = account.pool; quota = account.quota }
+abbrev pub share_of : AccountValue → Share
+share_of account = record { pool = account.pool; quota = account.quota }
+
+-- what stands behind a spool: how it keeps its pairs, and whose pages it keeps them on, and how many
+pub record Stake : Type 0 where
+  pub kind : SpoolKind
+  pub share : Share
+
+abbrev pub stake_of : SpoolKind → AccountValue → Stake
+stake_of kind account = record { kind = kind; share = share_of account }
+
+-- whose pages stand behind a spool, and how many
+abbrev pub share_in : Stake → Share
+share_in stake = stake.share
 
 -- how many pages are leased
 abbrev pub leased : AccountValue → ℕ

@@ -5,7 +5,7 @@ use Rattle.run_maker.specs.Making.{AreReady}
 use Rattle.run_maker.proofs.FullSpools.{full_intact}
 use Rattle.page_workers.specs.Turns.{HasDone, IsStopped, TurnHolds, least_pairs, turn_images}
 use Rattle.page_workers.specs.WorkerValue.{WorkerValue}
-use Rattle.page_workers.proofs.SpoolViews.{lent_back, part_held, received_full, same_after, spools_ready, turn_held, turn_seen, values_ready, worker_with}
+use Rattle.page_workers.proofs.SpoolViews.{lent_back, part_held, received_full, same_after, spools_ready, spools_sorted, turn_held, turn_seen, values_ready, worker_with}
 use Rattle.page_workers.proofs.Turns.{turn_counts}
 use Rattle.page_workers.proofs.worker.Worker.take_with.Goals as goal
 
@@ -96,7 +96,9 @@ returns-in-Err-clause-stopped g c =
       full = λ sound no_page.
           rw back (received_full spool.runs spool.open_run spool.stake is_full (least_pairs c.args.turn) at.intake after at.maker maker at.spools.items c.deref_mut.result.now spools holds
           c.deref_mut.ensures.value c.take.ensures.specs c.take.ensures.schema c.take.ensures.build many
-          (full_intact spool.is_full spool.runs spool.open_run spool.is_intact (least_pairs c.args.turn) _ _ spools intact (it.full no_page)));
+          (full_intact spool.is_full spool.runs spool.open_run spool.is_intact (least_pairs c.args.turn) _ _ spools intact
+          (c.take.ensures.sorted (subst (λ (old : List _). All AreSorted (map spool.runs old)) (sym c.deref_mut.ensures.value)
+          (spools_sorted spool.runs spool.open_run spool.stake at.spools.items holds.sorted))) (it.full no_page)));
       want = λ sound memory. rw back (values_ready spool.runs spool.open_run spool.stake spools (it.want memory));
       part = λ sound memory. rw back
           (part_held spool.runs spool.open_run spool.stake at.intake after at.maker maker at.spools.items c.deref_mut.result.now spools c.deref_mut.ensures.value
