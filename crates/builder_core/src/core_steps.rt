@@ -199,7 +199,8 @@ impl<S: Spool, T: TableRings> Core<S, T> {
     /// Does one event of its own, or tells why not: the row of a write is handed on.
     fn attempt_own(&mut self, event: Event) -> Result<Reply, Fault>
         ensures answers { Answers self.old event result self.new }
-        ensures full { IfSpooling event (λ turn worker. IfErr result (NoPageOnlyIfFull (IsFullIntact S.is_full S.is_intact S.runs) S.runs S.open_run S.stake turn self.old worker)) }
+        ensures full { IfSpooling event (λ turn worker. IfErr result
+            (NoPageOnlyIfFull (IsFullIntact S.is_full S.is_intact S.runs) S.runs S.open_run S.stake turn self.old worker)) }
     {
         match event {
             Event::Insert { txn, row } => {
@@ -217,7 +218,8 @@ impl<S: Spool, T: TableRings> Core<S, T> {
     /// Does one event that it is lent, or tells why not.
     fn attempt(&mut self, event: &Event) -> Result<Reply, Fault>
         ensures answers { Answers self.old event.now result self.new }
-        ensures full { IfSpooling event.now (λ turn worker. IfErr result (NoPageOnlyIfFull (IsFullIntact S.is_full S.is_intact S.runs) S.runs S.open_run S.stake turn self.old worker)) }
+        ensures full { IfSpooling event.now (λ turn worker. IfErr result
+            (NoPageOnlyIfFull (IsFullIntact S.is_full S.is_intact S.runs) S.runs S.open_run S.stake turn self.old worker)) }
     {
         match event {
             Event::Begin => Ok(Reply::Begun { txn: self.begin()? }),

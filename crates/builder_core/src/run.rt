@@ -22,7 +22,8 @@ pub fn run_events<S: Spool, T: TableRings>(
     events: &[Event],
 ) -> (Live<T>, Ends<T>, Vec<S>, Result<Vec<Reply>, Fault>)
     ensures headline { IfOk result.3 (λ replies.
-        RunsAsAtRest (WantedPage (IsFullIntact S.is_full S.is_intact S.runs) S.runs S.open_run S.stake) live.state (spools_in S.runs S.open_run S.stake spools.items) events.now replies.items
+        RunsAsAtRest (WantedPage (IsFullIntact S.is_full S.is_intact S.runs) S.runs S.open_run S.stake) live.state
+        (spools_in S.runs S.open_run S.stake spools.items) events.now replies.items
         result.0.state) }
     ensures ready { ReadyFollowTable result.0.state }
     ensures ended { All S.ended result.2.items }

@@ -24,7 +24,8 @@ impl<S: Spool, T: TableRings> Building<S, T> {
         requires there { worker < length self.old.workers }
         requires runs { IsSome self.old.work }
         ensures did { IfOk result (λ images. WorkerDid Turn.Digest worker self.old images self.new) }
-        ensures stopped { IfErr result (λ fault. WorkerStopped (IsFullIntact S.is_full S.is_intact S.runs) S.runs S.open_run S.stake Turn.Digest worker self.old fault self.new) }
+        ensures stopped { IfErr result (λ fault.
+            WorkerStopped (IsFullIntact S.is_full S.is_intact S.runs) S.runs S.open_run S.stake Turn.Digest worker self.old fault self.new) }
     {
         self.take(worker, Turn::Digest)
     }
@@ -34,7 +35,8 @@ impl<S: Spool, T: TableRings> Building<S, T> {
         requires there { worker < length self.old.workers }
         requires runs { IsSome self.old.work }
         ensures did { IfOk result (λ images. WorkerDid Turn.Seal worker self.old images self.new) }
-        ensures stopped { IfErr result (λ fault. WorkerStopped (IsFullIntact S.is_full S.is_intact S.runs) S.runs S.open_run S.stake Turn.Seal worker self.old fault self.new) }
+        ensures stopped { IfErr result (λ fault.
+            WorkerStopped (IsFullIntact S.is_full S.is_intact S.runs) S.runs S.open_run S.stake Turn.Seal worker self.old fault self.new) }
     {
         self.take(worker, Turn::Seal)
     }
@@ -44,7 +46,8 @@ impl<S: Spool, T: TableRings> Building<S, T> {
         requires there { worker < length self.old.workers }
         requires runs { IsSome self.old.work }
         ensures did { IfOk result (λ images. WorkerDid turn worker self.old images self.new) }
-        ensures stopped { IfErr result (λ fault. WorkerStopped (IsFullIntact S.is_full S.is_intact S.runs) S.runs S.open_run S.stake turn worker self.old fault self.new) }
+        ensures stopped { IfErr result (λ fault.
+            WorkerStopped (IsFullIntact S.is_full S.is_intact S.runs) S.runs S.open_run S.stake turn worker self.old fault self.new) }
     {
         let Some(work) = &mut self.work else {
             unreachable!()

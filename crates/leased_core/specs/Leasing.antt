@@ -1,5 +1,5 @@
 -- The pages that the spools of a build lease, and how a table stands before a build and behind it.
-use Rattle.std.specs.Prelude.{◌≡◌, ◌⊎◌, ℕ, ◌*◌, ◌≤◌, true, is_some, List, [], length, replicate, Option, Some, None, MatchOption}
+use Rattle.std.specs.Prelude.{◌≡◌, ◌⊎◌, ℕ, ◌*◌, ◌≤◌, true, is_some, List, [], length, map, replicate, Option, Some, None, MatchOption}
 use Rattle.std.specs.List.{All, sum_by}
 use Rattle.std.specs.Option.{option_map}
 use Rattle.spool_ledger.specs.Accounts.{Stake, stake_of}
@@ -8,8 +8,9 @@ use Rattle.run_spool.specs.PagedSpools.{runs_of}
 use Rattle.run_spool.specs.Runs.{pairs_of}
 use Rattle.run_spool.specs.Spools.{IsFullIntact, stakes_in}
 use Rattle.run_spool.specs.declared.choice.SpoolChoice.{SpoolChoice}
-use Rattle.run_spool.specs.declared.choice.SpoolChoice.TheVariants as choice
-use Rattle.prefix_spool.specs.Kinds.{inside, IsFullOfKind, IsIntactOfKind}
+use Rattle.run_spool.specs.Choices.{kinds_from}
+use Rattle.spool_ledger.specs.declared.kind.SpoolKind.{SpoolKind}
+use Rattle.prefix_spool.specs.Kinds.{inside, kind_of, IsFullOfKind, IsIntactOfKind}
 use Rattle.prefix_spool.specs.declared.either.SpoolOfKind.{SpoolOfKind}
 use Rattle.keybytes.specs.declared.fault.Fault.{Fault}
 use Rattle.keybytes.specs.declared.fault.Fault.TheVariants.{Memory}
@@ -29,9 +30,9 @@ pub record LeasesValue : Type 0 where
   pub pool : PoolValue
   pub room : ℕ
 
--- pool and quota of the account behind a spool
+-- the kind of a spool, with pool and quota of the account behind it
 abbrev pub stake_in : SpoolOfKind → Option Stake
-stake_in spool = Some (stake_of (inside spool).account)
+stake_in spool = Some (stake_of (kind_of spool) (inside spool).account)
 
 -- spools of either kind as the core sees them
 abbrev pub spools_of_kinds : List SpoolOfKind → SpoolsState
@@ -45,19 +46,17 @@ WantedLeasedPage = WantedPage (IsFullIntact IsFullOfKind IsIntactOfKind (λ spoo
 abbrev pub no_spools : SpoolsState
 no_spools = record { stakes = []; left = [] }
 
--- the number of a build's pool, which tells by which choice the kinds of its spools were made
-abbrev pub pool_of : SpoolChoice → ℕ
-pool_of choice.Plain = 0
-pool_of choice.Prefix = 1
-pool_of choice.Mixed = 2
+-- what stands behind a new spool of that kind: so many pages of a build's pool
+abbrev pub new_stake : ℕ → SpoolKind → Option Stake
+new_stake quota kind = Some (record { kind = kind; share = record { pool = 0; quota = quota } })
 
 -- so many empty spools of the kinds that are chosen, each with a quota of that many pages of its own
 abbrev pub new_spools : SpoolChoice → ℕ → ℕ → SpoolsState
-new_spools chosen count quota = record { stakes = replicate count (Some (record { pool = pool_of chosen; quota = quota })); left = replicate count true }
+new_spools chosen count quota = record { stakes = map (new_stake quota) (kinds_from chosen 0 count); left = replicate count true }
 
 -- how many pages a stake has
 abbrev pub pages_of : Stake → ℕ
-pages_of stake = stake.quota
+pages_of stake = stake.share.quota
 
 -- how many pages these accounts have together
 abbrev pub pages_in : List (Option Stake) → ℕ
@@ -65,7 +64,7 @@ pages_in stakes = sum_by pages_of (stakes_in stakes)
 
 -- the accounts behind spools are of that pool, have together the pages that it has split off, and find room beside it
 pub record AreOf (leases : LeasesValue) (stakes : List (Option Stake)) : Type 0 where
-  pub own : All (λ stake. stake.pool ≡ leases.pool.number) (stakes_in stakes)
+  pub own : All (λ stake. stake.share.pool ≡ leases.pool.number) (stakes_in stakes)
   pub out : pages_in stakes ≡ leases.pool.out
   pub room : length stakes ≤ leases.room
 

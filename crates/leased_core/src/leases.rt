@@ -2,7 +2,7 @@ ghost use Rattle.std.specs.Prelude.{◌≡◌, ◌≤◌, ◌<◌, ◌^◌, All,
 ghost use Rattle.run_spool.specs.Choices.{kinds_from};
 ghost use Rattle.spool_ledger.specs.Pools.{with_back};
 ghost use Rattle.prefix_spool.specs.Kinds.{kind_of};
-ghost use Rattle.leased_core.specs.Leasing.{AreOf, new_spools, pool_of, spools_of_kinds, stake_in};
+ghost use Rattle.leased_core.specs.Leasing.{AreOf, new_spools, spools_of_kinds, stake_in};
 
 use keybytes::Fault;
 use prefix_spool::{SpoolOfKind, spools_over};
@@ -47,7 +47,7 @@ impl Leases {
         ensures memory { IfErr result (λ fault. fault ≡ Fault.Memory) }
     {
         let quotas = quotas(alloc, spools, quota as u32)?;
-        let mut pool = Pool::new(alloc, pool_of(choice), (spools * quota) as u32)?;
+        let mut pool = Pool::new(alloc, 0, (spools * quota) as u32)?;
         let accounts = pool.split(alloc, quotas.as_slice())?;
         let leases = Leases {
             pool,
@@ -73,17 +73,6 @@ impl Leases {
             Err(_) => unreachable!(),
         };
         (pool, missing)
-    }
-}
-
-/// The number of the pool of a build's pages. A core doesn't show of what kinds its spools are, but the pool of each: so that tells them.
-fn pool_of(choice: SpoolChoice) -> u64
-    ensures { result ≡ pool_of choice }
-{
-    match choice {
-        SpoolChoice::Plain => 0,
-        SpoolChoice::Prefix => 1,
-        SpoolChoice::Mixed => 2,
     }
 }
 

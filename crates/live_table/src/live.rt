@@ -1,4 +1,4 @@
-ghost use Rattle.std.specs.Prelude.{◌≡◌, ◌<◌, length, [], Some, None, IfOk, IfErr, IfSome, OnOk, OnErr, MatchOption, slice_get};
+ghost use Rattle.std.specs.Prelude.{◌≡◌, ◌<◌, length, [], All, Some, None, IfOk, IfErr, IfSome, OnOk, OnErr, MatchOption, slice_get};
 ghost use Rattle.build_events.specs.BuildSteps.{OnBuild};
 ghost use Rattle.keybytes.specs.Faults.{RefusedFor};
 ghost use Rattle.heap_log.specs.Standing.{live_at, newest_standing};
@@ -127,6 +127,7 @@ impl<T: TableRings> Live<T> {
     pub fn ready(&self) -> &ReadyIndexes
         ensures ready { indexes_of result.now.indexes ≡ self.now.state.ready }
         ensures follow { ReadyFollowTable self.now.state }
+        ensures columns { All (λ index. index.spec.kinds ≡ self.now.state.heap.schema) self.now.state.ready }
     {
         &self.ready
     }

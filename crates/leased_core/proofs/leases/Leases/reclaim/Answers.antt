@@ -10,20 +10,20 @@ pub reclaim-requires-clause-own : goal.reclaim-requires-clause-own
 reclaim-requires-clause-own c =
     let leases : LeasesValue = record { pool = c.self.inside.pool; room = vec_capacity c.self.inside.accounts } in
     let of = subst (λ (leases : LeasesValue). AreOf leases (map stake_in c.args.spools.items)) (sym c.self.view_is) c.requires in
-    back_own leases c.args.spools.items c.self.inside.accounts.items c.give_up_all.new.accounts.items c.self.invariant c.give_up_all.ensures.stakes of
+    back_own leases c.args.spools.items c.self.inside.accounts.items c.give_up_all.new.accounts.items c.self.invariant c.give_up_all.ensures.shares of
 
 pub reclaim-requires-clause-out : goal.reclaim-requires-clause-out
 reclaim-requires-clause-out c =
     let leases : LeasesValue = record { pool = c.self.inside.pool; room = vec_capacity c.self.inside.accounts } in
     let of = subst (λ (leases : LeasesValue). AreOf leases (map stake_in c.args.spools.items)) (sym c.self.view_is) c.requires in
-    let out = back_out leases c.args.spools.items c.self.inside.accounts.items c.give_up_all.new.accounts.items c.self.invariant c.give_up_all.ensures.stakes of in
+    let out = back_out leases c.args.spools.items c.self.inside.accounts.items c.give_up_all.new.accounts.items c.self.invariant c.give_up_all.ensures.shares of in
     omega (arith, out)
 
 pub returns-clause-pool : goal.returns-clause-pool
 returns-clause-pool c =
     let leases : LeasesValue = record { pool = c.self.inside.pool; room = vec_capacity c.self.inside.accounts } in
     let of = subst (λ (leases : LeasesValue). AreOf leases (map stake_in c.args.spools.items)) (sym c.self.view_is) c.requires in
-    let out = back_out leases c.args.spools.items c.self.inside.accounts.items c.give_up_all.new.accounts.items c.self.invariant c.give_up_all.ensures.stakes of in
+    let out = back_out leases c.args.spools.items c.self.inside.accounts.items c.give_up_all.new.accounts.items c.self.invariant c.give_up_all.ensures.shares of in
     let whole = c.give_up_all.ensures.whole (subst (All IsWhole) (sym c.self.invariant) (All-nil IsWhole)) in
     subst (λ (leases : LeasesValue). c.reclaim.new.self ≡ with_back leases.pool leases.pool.out) c.self.view_is
     (all_back c.self.inside.pool c.reclaim.new.self c.give_up_all.new.accounts.items out whole c.reclaim.ensures.taken_in)
