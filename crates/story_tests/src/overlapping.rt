@@ -18,7 +18,8 @@ commit,A
 
 /// Two ranges of 28 pages, so that each worker's first run is full before its range ends. Each is held at its first
 /// page, until the other is there too. Either worker scans one of the two ranges, seen by the pages that it copied. Each
-/// hold, at the first pages and in both workers' digests, ends only once the session has inserted a row: four in all.
+/// hold, at the first pages, in both workers' digests and once the index is loaded, ends only once the session has inserted
+/// a row: five in all.
 static WIDE: [Meeting; 1] = [Meeting {
     script: "table,150,int,int
 start,2,4,even:2,n:0
@@ -35,9 +36,9 @@ start,2,4,even:2,n:0
         ..FREE
     },
     place: 4,
-    further: 4,
-    told: Ok((1, 8404)),
-    given: (9, 9),
+    further: 5,
+    told: Ok((1, 8405)),
+    given: (11, 11),
     seen: &[0xff_ffff_ffff_ffff, 28, 28],
     ..WHOLE
 }];

@@ -240,7 +240,8 @@ fn goes_beside<T: Opened, R: Wait>(
     false
 }
 
-/// Whether the table tells that entries wait, and that its pages are being copied, or that it is about to catch up; or else that the
+/// Whether the table tells that entries wait, and that its pages are being copied, that the first index is loaded, or that it is about to
+/// catch up; or else that the
 /// switch waited for a transaction, and is to be tried again.
 fn is_asking<T: Opened, R: Wait>(rt: &R, table: &Table<T>, program: &Program) -> bool {
     let progress = table.progress(rt);
@@ -249,6 +250,7 @@ fn is_asking<T: Opened, R: Wait>(rt: &R, table: &Table<T>, program: &Program) ->
     }
     let is_where = match progress.phase {
         Phase::Scanning => progress.pages == 56 && progress.scanned > 0 && progress.loaded == 0,
+        Phase::Loading => progress.scanned == 56 && progress.loaded == 1,
         Phase::CatchingUp => progress.tries == 1 && progress.loaded > 0,
         _ => false,
     };

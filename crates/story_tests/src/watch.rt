@@ -31,7 +31,7 @@ pub struct Holds {
     /// How often others may run from there on, so that what the other does with its last page is done.
     pub yields: u32,
     /// Whether who is held asks for an insert, and goes on only once the session has begun one since and has its
-    /// answer.
+    /// answer. Then who tells that an index is loaded is held so too.
     pub is_asking: bool,
     /// For how many rounds of a session a try of the switch asks, before the build catches up, and which try.
     pub backlog: u64,
@@ -172,6 +172,9 @@ impl Gate for Watch {
             }
             Point::Loaded { index } => {
                 self.add(LOADED + index.min(1), 1);
+                if self.is_asking {
+                    self.hold(0, 0);
+                }
             }
             Point::Try { n } => {
                 self.add(TRIES, 1);
