@@ -1,9 +1,10 @@
 -- A spool that a worker found full is one of the worker's, and the pairs in it are of pages that were copied for the worker.
 use Rattle.std.proofs.Common.{◌≡◌, ℕ, ◌+◌, ◌*◌, ◌<◌, false, List, [], ◌++◌, get_or, length, take, take_all, drop, Option, None, Some, sym, ap, ◌∙◌, subst, arith, inl, inr}
-use Rattle.std.proofs.Common.{append_assoc, take-append-drop}
+use Rattle.std.proofs.Common.{◌∷◌, ◌≤◌, append_assoc, length-append, take-append-drop}
+use Rattle.std.proofs.lemmas.List.Sorted.{length_permutation}
 use Rattle.std.specs.Prelude.{flat_map}
 use Rattle.std.specs.List.{slice_get}
-use Rattle.std.proofs.lemmas.List.{length-drop}
+use Rattle.std.proofs.lemmas.List.{length-drop, take-take}
 use Rattle.std.proofs.lemmas.Bool.{cases_Bool}
 use Rattle.keybytes.specs.Keys.{KeySpecValue}
 use Rattle.keybytes.specs.declared.fault.Fault.{Fault}
@@ -22,14 +23,17 @@ use Rattle.page_workers.specs.Copies.{images_of}
 use Rattle.page_workers.specs.ImagePairs.{HavePairs}
 use Rattle.page_workers.specs.SpoolValue.{SpoolValue, runs_of, spool_value, stakes_of}
 use Rattle.side_file.specs.Ends.{TakeEnd, after_taking}
-use Rattle.page_workers.specs.Taking.{sealed_images}
+use Rattle.page_workers.specs.Taking.{received_images, sealed_images}
 use Rattle.page_workers.specs.declared.turn.Turn.{Turn}
 use Rattle.page_workers.specs.declared.turn.Turn.TheVariants.{Digest, Seal}
-use Rattle.page_workers.specs.Turns.{IsStopped, turn_images}
+use Rattle.page_workers.specs.Turns.{IsStopped, turn_copies, turn_images}
 use Rattle.page_workers.specs.WorkerValue.{HasReceived, SameWorker, WorkerValue}
 use Rattle.page_workers.specs.declared.copied.Copied.{Copied}
 use Rattle.page_workers.proofs.ManyPairs.{have_split, images-append}
+use Rattle.page_workers.proofs.Received.{received_after}
 use Rattle.page_workers.proofs.SamePairs.{have_same}
+use Rattle.page_workers.specs.IntakeValue.{IntakeValue}
+use Rattle.page_workers.specs.Work.{next_images}
 use Rattle.page_workers.proofs.Turns.{taken_till}
 use Rattle.build_events.specs.BuildSteps.{OnBuild}
 use Rattle.build_events.specs.CoreState.{BuildState, WorkerState, scanning_of}
@@ -43,17 +47,26 @@ use Rattle.building.specs.Keeping.{KeepsLaws}
 use Rattle.live_lemmas.proofs.LoadCauses.{opened_of}
 use Rattle.live_lemmas.proofs.Refusals.{worker_there}
 use Rattle.live_lemmas.proofs.RunsToClose.{run_to_close}
-use Rattle.live_lemmas.proofs.Waits.{begun_is, next_copied, sealed_are, waits}
+use Rattle.live_lemmas.proofs.Waits.{begun_is, next_copied, received_copies, sealed_are, waits}
 use Rattle.page_workers.proofs.Places.{all_at, at_map, below, map_at, there_is}
 use Rattle.building.specs.BuildingValue.{BuildingValue, WorkValue, worker_state}
 use Rattle.building.specs.Holding.{all_spools, workers_spools}
 use Rattle.building.specs.Rings.{IsWorkerOf, all_sent}
 use Rattle.live_lemmas.specs.Builds.{IsRunning, LiveValue, SeesRing, core_state}
-use Rattle.live_lemmas.specs.FullSpools.{AreFullSince, HasRunToClose, WasFull, WorkerWasFull, pairs_put_to, sealed_pairs, turn_scans}
+use Rattle.live_lemmas.specs.FullSpools.{AreFullSince, HasRunToClose, WasFull, WorkerWasFull, pairs_by_turn, sealed_pairs, turn_scans}
 use Rattle.live_lemmas.specs.Rings.{ArePut}
 use Rattle.live_lemmas.proofs.AllImages.{all_own}
 use Rattle.live_lemmas.proofs.CopyPairs.{copies_pairs}
 use Rattle.live_lemmas.proofs.HandedOver.{spec_is}
+
+-- copies of some scans, and of others
+copies_append :
+    (kinds : List Kind) (log : List LogRec) (first then : List Scan) (images others : List ImageValue) → AreCopies kinds log first images
+    → AreCopies kinds log then others → AreCopies kinds log (first ++ then) (images ++ others)
+copies_append kinds log [] then [] others copies more = more
+copies_append kinds log [] then (image ∷ images) others copies more = absurd copies
+copies_append kinds log (scan ∷ first) then [] others copies more = absurd copies
+copies_append kinds log (scan ∷ first) then (image ∷ images) others copies more = (copies.0, copies_append kinds log first then images others copies.1 more)
 
 -- it is one of the running build's
 module _
@@ -91,46 +104,6 @@ module _
   its : IsWorkerOf b.number kinds w.specs w.handed sent it
   its = run.at_work.taking fine k sent it sent_there sees.there
 
-  -- the images of the build in its ring are copies of the pages that were scanned for it
-  copies : AreCopies kinds log (put_to b k) (images_of b.number kinds sent)
-  copies =
-      let all = put k sent sent_there in
-      subst (AreCopies kinds log (put_to b k)) (sym (all_own kinds log b.number (put_to b k) sent all)) all
-
-  -- what it received when it stopped is of these
-  received_parts :
-      (after : WorkerValue) (n : ℕ) → after.intake.end ≡ after_taking n it.intake.end
-      → (rest : List Copied) × (images_of b.number kinds sent ≡ images_of b.number kinds after.intake.end.received ++ images_of b.number kinds rest)
-  received_parts after n took =
-      let end = it.intake.end in
-      let rest = drop n end.known in
-      let received : after.intake.end.received ++ rest ≡ sent =
-      ap (λ (e : TakeEnd Copied). e.received ++ rest) took ∙ append_assoc end.received (take n end.known) rest
-      ∙ ap (λ (cs : List Copied). end.received ++ cs) (take-append-drop n end.known) ∙ sees.in_order in
-      (rest, ap (images_of b.number kinds) (sym received) ∙ images-append b.number kinds after.intake.end.received rest)
-
-  -- the pairs of those are some of the pairs of the pages that were copied for it
-  of_pages :
-      (after : WorkerValue) → SameWorker it after → (n : ℕ) → after.intake.end ≡ after_taking n it.intake.end → (i : ℕ) (spec : KeySpecValue) → slice_get w.specs i ≡ Some spec
-      → (pairs : List Pair) → HasReceived after i pairs → AreSomeOf pairs (pairs_put_to b spec log k)
-  of_pages after same n took i spec is pairs got =
-      let received = after.intake.end.received in
-      let columns = all_at (λ (s : KeySpecValue). s.kinds ≡ kinds) w.specs i spec run.on.columns is in
-      let have = copies_pairs (scanning_of b spec) kinds log (put_to b k) (images_of b.number kinds sent) columns copies in
-      let parts = received_parts after n took in
-      let split = have_split spec (images_of b.number kinds received) (images_of b.number kinds parts.0) (pairs_put_to b spec log k)
-      (subst (λ (images : List ImageValue). HavePairs spec images (pairs_put_to b spec log k)) parts.1 have) in
-      let spec_same : spec_at after.maker.specs i ≡ spec =
-      ap (λ (specs : List KeySpecValue). spec_at specs i) (same.specs ∙ its.specs_are) ∙ spec_is w.specs i spec is in
-      let by_spec : HavePairs spec (images_of after.intake.build after.maker.schema received) pairs =
-      subst (λ (s : KeySpecValue). HavePairs s (images_of after.intake.build after.maker.schema received) pairs) spec_same got in
-      let by_build : HavePairs spec (images_of b.number after.maker.schema received) pairs =
-      subst (λ (n : ℕ). HavePairs spec (images_of n after.maker.schema received) pairs) (same.build ∙ its.taking.of_build) by_spec in
-      let own : HavePairs spec (images_of b.number kinds received) pairs =
-      subst (λ (ks : List Kind). HavePairs spec (images_of b.number ks received) pairs) (same.schema ∙ its.schema) by_build in
-      let first : split.0 ≡ pairs = have_same spec (images_of b.number kinds received) split.0 pairs split.2 own in
-      first_of pairs split.1 (pairs_put_to b spec log k) (split.4 ∙ ap (λ (ps : List Pair). ps ++ split.1) first)
-
   -- the copies that its turn takes are of the scans that come next
   turn_copied : (turn : Turn) → AreCopies kinds log (turn_scans turn b k (worker_state it.intake)) (turn_images turn kinds it.intake)
   turn_copied Digest = next_copied kinds log b k sent it.intake (put k sent sent_there) its.taking 1 sees.in_order
@@ -141,6 +114,52 @@ module _
       let all : take known later ≡ later = take_all known later (omega (arith, few, length-drop it.intake.taken (put_to b k))) in
       subst (λ (scans : List Scan). AreCopies kinds log scans (turn_images Seal kinds it.intake)) all
       (next_copied kinds log b k sent it.intake (put k sent sent_there) its.taking known sees.in_order)
+
+  -- so are those that it has taken once it has its turn
+  taken_copied :
+      (turn : Turn) → AreCopies kinds log (take it.intake.taken (put_to b k) ++ turn_scans turn b k (worker_state it.intake)) (received_images kinds it.intake ++ turn_images turn kinds it.intake)
+  taken_copied turn =
+      copies_append kinds log (take it.intake.taken (put_to b k)) (turn_scans turn b k (worker_state it.intake)) (received_images kinds it.intake) (turn_images turn kinds it.intake)
+      (received_copies kinds log b k sent it.intake (put k sent sent_there) its.taking) (turn_copied turn)
+
+  -- what it had received when it stopped is of these
+  received_parts :
+      (turn : Turn) (after : IntakeValue) (n : ℕ) → after.build ≡ it.intake.build → after.end ≡ after_taking n it.intake.end → n ≤ turn_copies turn it.intake
+      → (rest : List ImageValue) × (received_images kinds it.intake ++ turn_images turn kinds it.intake ≡ received_images kinds after ++ rest)
+  received_parts turn after n build end few =
+      let known = it.intake.end.known in
+      let all = take (turn_copies turn it.intake) known in
+      let first : take n all ≡ take n known = take-take n (turn_copies turn it.intake) known few in
+      let rest = images_of it.intake.build kinds (drop n all) in
+      let split : turn_images turn kinds it.intake ≡ next_images n kinds it.intake ++ rest =
+      ap (images_of it.intake.build kinds) (sym (take-append-drop n all)) ∙ images-append it.intake.build kinds (take n all) (drop n all)
+      ∙ ap (λ (cs : List Copied). images_of it.intake.build kinds cs ++ rest) first in (
+        rest,
+        ap (λ (images : List ImageValue). received_images kinds it.intake ++ images) split
+            ∙ sym (append_assoc (received_images kinds it.intake) (next_images n kinds it.intake) rest)
+            ∙ ap (λ (images : List ImageValue). images ++ rest) (sym (received_after n kinds it.intake after build end)),
+      )
+
+  -- the pairs of what it had received are some of the pairs of these
+  of_turn :
+      (turn : Turn) (after : WorkerValue) → SameWorker it after → (n : ℕ) → after.intake.end ≡ after_taking n it.intake.end → n ≤ turn_copies turn it.intake
+      → (i : ℕ) (spec : KeySpecValue) → slice_get w.specs i ≡ Some spec → (pairs : List Pair) → HasReceived after i pairs
+      → AreSomeOf pairs (pairs_by_turn turn b spec log k (worker_state it.intake))
+  of_turn turn after same n took few i spec is pairs got =
+      let all = pairs_by_turn turn b spec log k (worker_state it.intake) in
+      let columns = all_at (λ (s : KeySpecValue). s.kinds ≡ kinds) w.specs i spec run.on.columns is in
+      let have = copies_pairs (scanning_of b spec) kinds log (take it.intake.taken (put_to b k) ++ turn_scans turn b k (worker_state it.intake))
+      (received_images kinds it.intake ++ turn_images turn kinds it.intake) columns (taken_copied turn) in
+      let parts = received_parts turn after.intake n same.build took few in
+      let split = have_split spec (received_images kinds after.intake) parts.0 all (subst (λ (images : List ImageValue). HavePairs spec images all) parts.1 have) in
+      let spec_same : spec_at after.maker.specs i ≡ spec =
+      ap (λ (specs : List KeySpecValue). spec_at specs i) (same.specs ∙ its.specs_are) ∙ spec_is w.specs i spec is in
+      let by_spec : HavePairs spec (received_images after.maker.schema after.intake) pairs =
+      subst (λ (s : KeySpecValue). HavePairs s (received_images after.maker.schema after.intake) pairs) spec_same got in
+      let own : HavePairs spec (received_images kinds after.intake) pairs =
+      subst (λ (ks : List Kind). HavePairs spec (received_images ks after.intake) pairs) (same.schema ∙ its.schema) by_spec in
+      let first : split.0 ≡ pairs = have_same spec (received_images kinds after.intake) split.0 pairs split.2 own in
+      first_of pairs split.1 all (split.4 ∙ ap (λ (ps : List Pair). ps ++ split.1) first)
 
   -- it has another run to close
   has_run :
@@ -185,6 +204,7 @@ module _
       subst (λ (state : WorkerState). AreFullSince (sealed_pairs b log k state spec) (runs full.spool)) (sym (worker_there live building b w run fine put k it sees.there))
       (record {
         earlier = closed.earlier;
+        none_empty = closed.none_empty;
         since_seal = runs_more closed.earlier (get_or (runs_of it.spools) i []) (runs full.spool) closed.since_seal full.wants.closed;
         as_many = closed.as_many ∙ ap length are;
       })
@@ -195,6 +215,10 @@ module _
   full_in_build turn fault after stopped page_rings laws = λ no_page.
       let full = stopped.full its.fine no_page in
       let took = taken_till turn it.maker.schema it.intake after.intake fault (stopped.took its.fine) in
+      let some : (spec : KeySpecValue) → slice_get w.specs full.index ≡ Some spec
+      → AreSomeOf full.pairs (pairs_by_turn turn b spec log k (worker_at (core_state live building).work k)) =
+      λ spec is. subst (λ (state : WorkerState). AreSomeOf full.pairs (pairs_by_turn turn b spec log k state)) (sym (worker_there live building b w run fine put k it sees.there))
+      (of_turn turn after stopped.same took.0 took.1 took.2 full.index spec is full.pairs full.given) in
       let seen : slice_get (stakes_of it.spools) full.index ≡ Some (stake full.spool) =
       ap (λ (l : List (Option Stake)). slice_get l full.index) (sym stopped.same.stakes)
       ∙ map_at (λ (s : SpoolValue). s.stake) after.spools full.index (spool_value runs open_run stake full.spool) full.there in
@@ -218,8 +242,15 @@ module _
               of_build = ap (λ (specs : List KeySpecValue). slice_get specs full.index) run.on.specs ∙ index.1;
               spool = full.spool;
               there = ap (λ (specs : List KeySpecValue). slice_get (stakes_of (all_spools building.workers building.spools)) (k * length specs + full.index)) run.on.specs ∙ all;
-              full = full_of_more is_full runs open_run full.pairs (pairs_put_to b index.0 log k) full.spool
-                  (of_pages after stopped.same took.0 took.1 full.index index.0 index.1 full.pairs full.given) full.full;
+              full = full_of_more is_full runs open_run full.pairs (pairs_by_turn turn b index.0 log k state) full.spool (some index.0 index.1) full.full;
+              left =
+                  let more = some index.0 index.1 in
+                  omega (
+                    arith,
+                    full.wants.left,
+                    length-append full.pairs more.0,
+                    length_permutation (full.pairs ++ more.0) (pairs_by_turn turn b index.0 log k state) more.1,
+                  );
               closed = closed_full turn fault after stopped no_page page_rings laws scans index.0 index.1;
               wants = has_run turn fault after stopped no_page page_rings laws scans index.0 index.1;
             } in

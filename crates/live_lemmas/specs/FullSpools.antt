@@ -1,5 +1,5 @@
 -- Which events spool pairs, and the full spool behind one that wants a page.
-use Rattle.std.specs.Prelude.{◌≡◌, ℕ, ◌+◌, ◌*◌, ◌%◌, ◌≤◌, List, drop, flat_map, length, take, Option, None, Some}
+use Rattle.std.specs.Prelude.{◌≡◌, ℕ, ◌+◌, ◌*◌, ◌%◌, ◌≤◌, ◌++◌, List, drop, flat_map, length, take, Option, None, Some}
 use Rattle.std.specs.List.{slice_get}
 use Rattle.keybytes.specs.Keys.{KeySpecValue}
 use Rattle.keybytes.specs.declared.fault.Fault.{Fault}
@@ -7,7 +7,7 @@ use Rattle.keybytes.specs.declared.fault.Fault.TheVariants.{NoPage}
 use Rattle.keybytes.specs.declared.pair.Pair.{Pair}
 use Rattle.heap_log.specs.declared.record.LogRec.{LogRec}
 use Rattle.spool_ledger.specs.Accounts.{Stake}
-use Rattle.run_spool.specs.Spools.{all_pairs}
+use Rattle.run_spool.specs.Spools.{NoneEmpty, all_pairs}
 use Rattle.run_maker.specs.FullSpools.{IsFullOf}
 use Rattle.run_maker.specs.Spooling.{HasFullRunsMore}
 use Rattle.page_workers.specs.declared.turn.Turn.{Turn}
@@ -46,16 +46,17 @@ abbrev pub turn_event : Turn → ℕ → Event
 turn_event TurnDigest worker = Digest worker
 turn_event TurnSeal worker = Seal worker
 
--- the pairs of the pages that were copied for a worker, as each page was then
-abbrev pub pairs_put_to : BuildState → KeySpecValue → List LogRec → ℕ → List Pair
-pairs_put_to b spec log worker = flat_map (pairs_at_scan (scanning_of b spec) log) (put_to b worker)
-
 -- the scans whose copies a worker takes at that turn: of those that wait for it a digest takes the next one, a seal all
 abbrev pub turn_scans : Turn → BuildState → ℕ → WorkerState → List PageScan
 turn_scans TurnDigest b worker state = take 1 (drop state.taken (put_to b worker))
 turn_scans TurnSeal b worker state = drop state.taken (put_to b worker)
 
--- a worker has another run to close for an index at that turn: so many pairs make a run, and there are as many, those that it took since its
+-- the pairs of the pages whose copies a worker has taken once it has that turn, as each page was when it was copied
+abbrev pub pairs_by_turn : Turn → BuildState → KeySpecValue → List LogRec → ℕ → WorkerState → List Pair
+pairs_by_turn turn b spec log worker state =
+    flat_map (pairs_at_scan (scanning_of b spec) log) (take state.taken (put_to b worker) ++ turn_scans turn b worker state)
+
+-- a worker has another run to close for an index as that turn begins: so many pairs make a run, and there are as many, those that it took since its
 -- last seal and that fill no run, with those of the copies that it takes
 abbrev pub HasRunToClose : Turn → BuildState → List LogRec → ℕ → WorkerState → KeySpecValue → Type 0
 HasRunToClose turn b log worker state spec =
@@ -67,24 +68,26 @@ abbrev pub sealed_pairs : BuildState → List LogRec → ℕ → WorkerState →
 sealed_pairs b log worker state spec = flat_map (pairs_at_scan (scanning_of b spec) log) (take state.sealed (put_to b worker))
 
 -- each of these runs of a worker that was closed since its last seal has 4,096 pairs, and so has each one of a worker that hasn't sealed; those
--- before have as many pairs as it had taken by then
+-- before have pairs, and together as many as it had taken by then
 pub record AreFullSince (sealed : List Pair) (runs : List (List Pair)) : Type 0 where
   pub earlier : List (List Pair)
+  pub none_empty : NoneEmpty earlier
   pub since_seal : HasFullRunsMore earlier runs
   pub as_many : length (all_pairs earlier) ≡ length sealed
 
 module _
     {S : Type 0} (is_full : S → Pair → Type 0) (runs : S → List (List Pair)) (open_run : S → List Pair) (stake : S → Option Stake) where
-  -- a spool, with the pool and the quota of that worker's spool for one of the build's indexes, was full of the pairs of the pages that were
-  -- copied for the worker: it held some of them and nothing else, and had no room left for one more of them; its runs are such as
-  -- that worker closes; and the worker had another run to close for that index
+  -- a spool, with the kind, the pool and the quota of that worker's spool for one of the build's indexes, was full of the pairs of the copies that
+  -- the worker takes at that turn and took before: it held some of them and nothing else, and had no room left for one more of them; in
+  -- each of its runs stand as many pairs as that worker closes in one, and in none of them as many as it closes a run for
   pub record WasFull (turn : Turn) (b : BuildState) (log : List LogRec) (worker : ℕ) (state : WorkerState) (stakes : List (Option Stake)) : Type 0 where
     pub index : ℕ
     pub spec : KeySpecValue
     pub of_build : slice_get b.specs index ≡ Some spec
     pub spool : S
     pub there : slice_get stakes (worker * length b.specs + index) ≡ Some (stake spool)
-    pub full : IsFullOf is_full runs open_run (pairs_put_to b spec log worker) spool
+    pub full : IsFullOf is_full runs open_run (pairs_by_turn turn b spec log worker state) spool
+    pub left : length (all_pairs (runs spool)) + least_pairs turn ≤ length (pairs_by_turn turn b spec log worker state)
     pub closed : AreFullSince (sealed_pairs b log worker state spec) (runs spool)
     pub wants : HasRunToClose turn b log worker state spec
 

@@ -1,6 +1,7 @@
 -- What a worker's maker and spools hold, as it takes copies and seals.
 use Rattle.std.proofs.Common.{◌≡◌, ℕ, zero, suc, ◌<◌, List, [], ◌∷◌, ◌++◌, All, length, length-append, get_or, take, drop, refl, sym, ap, ◌∙◌, subst, arith}
 use Rattle.std.proofs.Common.{inl, inr}
+use Rattle.std.proofs.lemmas.List.{length-map}
 use Rattle.std.specs.List.Sorted.{IsSorted}
 use Rattle.std.proofs.Math.Seq.{drop-nil}
 use Rattle.std.proofs.lemmas.Bool.{cases_Bool}
@@ -174,7 +175,8 @@ module _
               let own = its i lt in
               let all = (more i lt own.0 own.1).all in
               rw (is, schema, same i)
-              (sealed_closed (spec_at maker.specs i) n maker.schema intake (get_or (runs_of new_spools) i []) counts.taken
+              (sealed_closed (spec_at maker.specs i) n maker.schema intake (get_or (runs_of new_spools) i [])
+              (ready.none_empty i [] (omega (arith, lt, many, holds.many, length-map new_spools (λ (spool : SpoolValue). spool.runs)))) counts.taken
               (sealed_holds (spec_at maker.specs i) n maker.schema intake (get_or (runs_of spools) i []) (get_or maker.begun i []) (get_or (runs_of new_spools) i [])
               own.0 (holds.holds i lt) own.1 (rw (none i) at all)));
         }

@@ -12,7 +12,7 @@ use Rattle.keybytes.specs.Keys.{KeySpecValue}
 use Rattle.keybytes.specs.declared.kind.Kind.{Kind}
 use Rattle.keybytes.specs.declared.pair.Pair.{Pair}
 use Rattle.heap_table.specs.Images.{ImageValue}
-use Rattle.run_spool.specs.Spools.{all_pairs}
+use Rattle.run_spool.specs.Spools.{NoneEmpty, all_pairs}
 use Rattle.run_maker.specs.Spooling.{Adds}
 use Rattle.run_maker.proofs.Spoolings.{no_runs, runs_more}
 use Rattle.page_workers.specs.declared.copied.Copied.{Copied}
@@ -153,6 +153,7 @@ start_closed spec kinds worker before =
     let none : sealed_images kinds worker ≡ [] = ap (take worker.sealed) (images_none worker.build kinds worker.end.received before) ∙ take_all worker.sealed [] (omega arith) in
     record {
       earlier = [];
+      none_empty = All-nil (λ run. 0 < length run);
       since_seal = no_runs [] [] refl;
       pairs = [];
       of_sealed = subst (λ (images : List ImageValue). HavePairs spec images []) (sym none) refl;
@@ -218,6 +219,7 @@ module _ (spec : KeySpecValue) (n : ℕ) (kinds : List Kind) (worker : IntakeVal
       ap (take worker.sealed) received_more ∙ take-append-le worker.sealed (received_images kinds worker) (next_images n kinds worker) (omega (arith, taken, sealed)) in
       record {
         earlier = holds.earlier;
+        none_empty = holds.none_empty;
         since_seal = runs_more holds.earlier old_runs runs holds.since_seal adds.full_runs;
         pairs = holds.pairs;
         of_sealed = subst (λ (images : List ImageValue). HavePairs spec images holds.pairs) (sym same) holds.of_sealed;
@@ -226,10 +228,10 @@ module _ (spec : KeySpecValue) (n : ℕ) (kinds : List Kind) (worker : IntakeVal
 
   -- after a seal all closed runs are those of before
   pub sealed_closed :
-      (runs : List (List Pair)) → worker.taken ≡ length (received_images kinds worker)
+      (runs : List (List Pair)) → NoneEmpty runs → worker.taken ≡ length (received_images kinds worker)
       → HoldsPairs spec (received_images kinds (after_seal (after_digest n kinds worker))) runs []
       → HoldsClosed spec (sealed_images kinds (after_seal (after_digest n kinds worker))) runs
-  sealed_closed runs taken holds =
+  sealed_closed runs full taken holds =
       let images = received_images kinds (after_digest n kinds worker) in
       let long : length images ≡ worker.taken + length (next_images n kinds worker) =
       omega (arith, taken, ap length received_more, length-append (received_images kinds worker) (next_images n kinds worker)) in
@@ -237,6 +239,7 @@ module _ (spec : KeySpecValue) (n : ℕ) (kinds : List Kind) (worker : IntakeVal
       take_all (worker.taken + length (next_images n kinds worker)) images (omega (arith, long)) in
       record {
         earlier = runs;
+        none_empty = full;
         since_seal = no_runs runs runs refl;
         pairs = holds.made;
         of_sealed = subst (λ (xs : List ImageValue). HavePairs spec xs holds.made) (sym all) holds.have;

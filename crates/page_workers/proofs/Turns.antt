@@ -10,7 +10,7 @@ use Rattle.page_workers.specs.declared.turn.Turn.TheVariants.{Digest, Seal}
 use Rattle.run_maker.specs.Making.{MakerValue}
 use Rattle.page_workers.specs.IntakeValue.{IntakeValue}
 use Rattle.side_file.specs.Ends.{after_taking}
-use Rattle.page_workers.specs.Turns.{StopsIn, after_turn}
+use Rattle.page_workers.specs.Turns.{StopsIn, after_turn, turn_copies}
 use Rattle.page_workers.specs.Work.{image_behind}
 use Rattle.page_workers.specs.WorkerValue.{IsCounting}
 use Rattle.page_workers.proofs.Keeping.{digest_counts, seal_counts}
@@ -29,13 +29,14 @@ behind_known n kinds worker own =
     let few = images_few worker.build kinds (take 1 (drop n worker.end.known)) in
     omega (arith, own, few, length-take 1 (drop n worker.end.known), length-drop n worker.end.known)
 
--- at a turn that is refused it took the next copies
+-- at a turn that is refused it took the next copies, none that the turn doesn't take
 pub taken_till :
-    (turn : Turn) (kinds : List Kind) (old new : IntakeValue) (fault : Fault) → StopsIn turn kinds old new fault → (n : ℕ) × (new.end ≡ after_taking n old.end)
-taken_till Digest kinds old new fault stops = (1, ap (λ (w : IntakeValue). w.end) stops.left)
+    (turn : Turn) (kinds : List Kind) (old new : IntakeValue) (fault : Fault) → StopsIn turn kinds old new fault
+    → (n : ℕ) × (new.end ≡ after_taking n old.end) × (n ≤ turn_copies turn old)
+taken_till Digest kinds old new fault stops = (1, ap (λ (w : IntakeValue). w.end) stops.left, omega arith)
 taken_till Seal kinds old new fault stops = elim stops [
-  | inl at ↦ (at.0 + 1, ap (λ (w : IntakeValue). w.end) at.1.left)
-  | inr all ↦ (length old.end.known, ap (λ (w : IntakeValue). w.end) all.1)
+  | inl at ↦ (let there = behind_known at.0 kinds old at.1.own in (at.0 + 1, ap (λ (w : IntakeValue). w.end) at.1.left, omega (arith, there)))
+  | inr all ↦ (length old.end.known, ap (λ (w : IntakeValue). w.end) all.1, omega arith)
 ]
 
 -- a seal that wants memory has seen a copy

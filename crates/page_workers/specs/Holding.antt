@@ -3,7 +3,7 @@ use Rattle.std.specs.Prelude.{◌≡◌, ℕ, ◌+◌, ◌*◌, ◌<◌, ◌≤�
 use Rattle.keybytes.specs.Keys.{KeySpecValue}
 use Rattle.keybytes.specs.declared.pair.Pair.{Pair}
 use Rattle.heap_table.specs.Images.{ImageValue}
-use Rattle.run_spool.specs.Spools.{all_pairs}
+use Rattle.run_spool.specs.Spools.{NoneEmpty, all_pairs}
 use Rattle.run_maker.specs.Spooling.{HasFullRunsMore}
 use Rattle.run_maker.specs.Making.{Holdings, AddsAt, held_at, spec_at}
 use Rattle.page_workers.specs.ImagePairs.{HavePairs}
@@ -41,9 +41,10 @@ pub record HoldsOpen (spec : KeySpecValue) (images : List ImageValue) (begun : L
   pub since_seal : HavePairs spec images last
   pub open_run : length begun ≡ length last % 4096
 
--- each run that was closed since the last seal has 4,096 pairs; those before have as many as these images, the sealed ones
+-- each run that was closed since the last seal has 4,096 pairs; those before have pairs, and together as many as these images, the sealed ones
 pub record HoldsClosed (spec : KeySpecValue) (sealed : List ImageValue) (runs : List (List Pair)) : Type 0 where
   pub earlier : List (List Pair)
+  pub none_empty : NoneEmpty earlier
   pub since_seal : HasFullRunsMore earlier runs
   pub pairs : List Pair
   pub of_sealed : HavePairs spec sealed pairs

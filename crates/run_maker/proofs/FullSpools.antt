@@ -61,6 +61,19 @@ stops_in_order sorted turned run begun left rest pair same_run up is moved last 
     let all : (run ++ pair ∷ []) ++ reverse rest ≡ sorted = append_assoc run (pair ∷ []) (reverse rest) ∙ in_order in
     rw same_run (sorted_front (run ++ pair ∷ []) (reverse rest) (subst (IsSorted pair_cmp) (sym all) up))
 
+-- they are no more than were to be spooled
+pub stops_within :
+    (pairs sorted turned run begun left rest : List Pair) (pair : Pair) (most : ℕ) → begun ≡ run → IsPermutation pairs sorted → turned ≡ reverse sorted
+    → run ++ reverse left ≡ reverse turned → left ≡ rest ++ pair ∷ [] → length pairs ≤ most → length (begun ++ pair ∷ []) ≤ most
+stops_within pairs sorted turned run begun left rest pair most same_run same is moved last few =
+    let in_order : run ++ pair ∷ reverse rest ≡ sorted =
+    ap (λ (ps : List Pair). run ++ ps) (sym (ap reverse last ∙ reverse-append rest (pair ∷ []))) ∙ moved ∙ ap reverse is ∙ reverse-reverse sorted in
+    let long = ap length in_order in
+    let many = length-append run (pair ∷ reverse rest) in
+    let all = length_permutation pairs sorted same in
+    let here = length-append run (pair ∷ []) in
+    rw same_run (omega (arith, few, long, many, all, here))
+
 -- so many of the pairs of a spool that closed no run are in none
 pub wants_run :
     (least : ℕ) (old now : List (List Pair)) (begun made : List Pair) → now ≡ old → least ≤ length begun + length made → WantsRun least old ((all_pairs old ++ begun) ++ made) now
@@ -94,7 +107,7 @@ wants_of_more least lower start middle pairs more now less before some wants = r
 module _ {S : Type 0} (is_full : S → Pair → Type 0) (runs : S → List (List Pair)) (open_run : S → List Pair) where
   -- the pairs are some of more
   pub full_of_more : (pairs more : List Pair) (spool : S) → AreSomeOf pairs more → IsFullOf is_full runs open_run pairs spool → IsFullOf is_full runs open_run more spool
-  full_of_more pairs more spool some is = record { pair = is.pair; held = some_of_some _ pairs more is.held some; in_order = is.in_order; full = is.full }
+  full_of_more pairs more spool some is = record { pair = is.pair; held = some_of_some _ pairs more is.held some; in_order = is.in_order; few = is.few; full = is.full }
 
   -- and no pair of it was freed, and its runs are in order, as with all of them
   pub full_intact :
@@ -114,7 +127,7 @@ module _ {S : Type 0} (is_full : S → Pair → Type 0) (runs : S → List (List
         there = has.there;
         pairs = has.pairs;
         given = has.given;
-        full = record { pair = has.full.pair; held = has.full.held; in_order = has.full.in_order; full = (has.full.full, free, up) };
+        full = record { pair = has.full.pair; held = has.full.held; in_order = has.full.in_order; few = has.full.few; full = (has.full.full, free, up) };
         wants = has.wants;
       }
 

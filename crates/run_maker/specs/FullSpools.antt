@@ -17,12 +17,13 @@ pub record WantsRun (least : ℕ) (old : List (List Pair)) (pairs : List Pair) (
   pub left : length (all_pairs now) + least ≤ length pairs
 
 module _ {S : Type 0} (is_full : S → Pair → Type 0) (runs : S → List (List Pair)) (open_run : S → List Pair) where
-  -- a spool is full of these pairs: it holds some of them and nothing else, and has no room left for one more of them, which comes behind
-  -- those of its open run
+  -- a spool is full of these pairs: it holds some of them and nothing else, and has no room left for one more of them; that one comes behind
+  -- those of its open run, which stay in order with it and are no more than a run has
   pub record IsFullOf (pairs : List Pair) (spool : S) : Type 0 where
     pub pair : Pair
     pub held : AreSomeOf ((all_pairs (runs spool) ++ open_run spool) ++ pair ∷ []) pairs
     pub in_order : IsSorted pair_cmp (open_run spool ++ pair ∷ [])
+    pub few : length (open_run spool ++ pair ∷ []) ≤ 4096
     pub full : is_full spool pair
 
   -- one of these spools, which had the old runs, is full of the pairs that are given for its index, and another run of so many was to be closed

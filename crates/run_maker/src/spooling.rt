@@ -1,4 +1,4 @@
-ghost use Rattle.std.specs.Prelude.{◌≡◌, ◌<◌, ◌⊎◌, ◌++◌, [], IsPermutation, IfErr, OnOk, OnErr, length};
+ghost use Rattle.std.specs.Prelude.{◌≡◌, ◌<◌, ◌≤◌, ◌⊎◌, ◌++◌, [], IsPermutation, IfErr, OnOk, OnErr, length};
 ghost use Rattle.std.specs.List.Sorted.{IsSorted};
 ghost use Rattle.keybytes.specs.Pairs.{pair_cmp};
 ghost use Rattle.run_spool.specs.Spools.{NoneEmpty, NoneFreed, AreSorted, all_pairs};
@@ -29,6 +29,7 @@ pub(crate) fn spool_run<S: Spool, Q: RunSort>(
 ) -> Result<(), Fault>
     requires none_empty { NoneEmpty (S.runs spool.old) }
     requires open_run { S.open_run spool.old ≡ [] }
+    requires few { length pairs.old.items ≤ 4096 }
     ensures spooled { OnOk result (Spooled pairs.old.items (S.runs spool.old) (S.runs spool.new)) }
     ensures none_empty { NoneEmpty (S.runs spool.new) }
     ensures sorted { AreSorted (S.runs spool.old) → AreSorted (S.runs spool.new) }

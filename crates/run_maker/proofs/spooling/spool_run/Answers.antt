@@ -4,7 +4,7 @@ use Rattle.std.proofs.lemmas.List.{nil_from_length}
 use Rattle.keybytes.specs.Pairs.{pair_cmp}
 use Rattle.keybytes.specs.declared.pair.Pair.{Pair}
 use Rattle.run_spool.specs.Spools.{AreSorted, with_closed_run}
-use Rattle.run_maker.proofs.FullSpools.{stops_at, stops_in_order}
+use Rattle.run_maker.proofs.FullSpools.{stops_at, stops_in_order, stops_within}
 use Rattle.run_maker.proofs.Spoolings.{closed_sorted, moved_all, still_intact}
 use Rattle.run_maker.proofs.spooling.spool_run.Goals as goal
 
@@ -42,5 +42,8 @@ returns-in-Err-clause-full g c =
       in_order = stops_in_order c.put_in_order.new.pairs.items c.reverse.new.self.items (open_run c.loop-pair.spool) (open_run c.push.new.self)
           c.loop-pair.pairs.items c.pop.new.self.items c.in-Some.pair c.in-Err.ensures.err c.put_in_order.ensures.sorted c.reverse.ensures.items
           c.loop-pair.invariant.moved c.in-Some.ensures.items;
+      few = stops_within c.args.pairs.now.items c.put_in_order.new.pairs.items c.reverse.new.self.items (open_run c.loop-pair.spool)
+          (open_run c.push.new.self) c.loop-pair.pairs.items c.pop.new.self.items c.in-Some.pair 4096 c.in-Err.ensures.err c.put_in_order.ensures.permutation
+          c.reverse.ensures.items c.loop-pair.invariant.moved c.in-Some.ensures.items c.requires.few;
       full = c.in-Err.ensures.still;
     }
