@@ -1,5 +1,5 @@
 -- What holds after a turn, whether it was a digest or a seal.
-use Rattle.std.proofs.Common.{◌≡◌, ℕ, ◌+◌, ◌<◌, List, length, take, drop, ap, arith, inl, inr}
+use Rattle.std.proofs.Common.{◌≤◌, ◌≡◌, ℕ, ◌+◌, ◌<◌, List, length, take, drop, ap, arith, inl, inr}
 use Rattle.std.specs.Prelude.{Result, Ok, Err, OnErr, IfErr}
 use Rattle.std.proofs.lemmas.List.{length-take, length-drop}
 use Rattle.keybytes.specs.declared.fault.Fault.{Fault}
