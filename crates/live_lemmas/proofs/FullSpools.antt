@@ -22,7 +22,7 @@ use Rattle.run_spool.specs.Spools.{NoPageOnlyIf}
 use Rattle.page_workers.specs.Copies.{images_of}
 use Rattle.page_workers.specs.ImagePairs.{HavePairs}
 use Rattle.page_workers.specs.SpoolValue.{SpoolValue, runs_of, spool_value, stakes_of}
-use Rattle.side_file.specs.Ends.{TakeEnd, after_taking}
+use Rattle.side_file.specs.Ends.{after_taking}
 use Rattle.page_workers.specs.Taking.{received_images, sealed_images}
 use Rattle.page_workers.specs.declared.turn.Turn.{Turn}
 use Rattle.page_workers.specs.declared.turn.Turn.TheVariants.{Digest, Seal}
@@ -55,7 +55,6 @@ use Rattle.building.specs.Rings.{IsWorkerOf, all_sent}
 use Rattle.live_lemmas.specs.Builds.{IsRunning, LiveValue, SeesRing, core_state}
 use Rattle.live_lemmas.specs.FullSpools.{AreFullSince, HasRunToClose, WasFull, WorkerWasFull, pairs_by_turn, sealed_pairs, turn_scans}
 use Rattle.live_lemmas.specs.Rings.{ArePut}
-use Rattle.live_lemmas.proofs.AllImages.{all_own}
 use Rattle.live_lemmas.proofs.CopyPairs.{copies_pairs}
 use Rattle.live_lemmas.proofs.HandedOver.{spec_is}
 
