@@ -1,4 +1,8 @@
 mod Crosses
+mod EmptySpools
 mod Gathering
 mod PassedOver
+mod Renamed
+mod RolledBack
+mod TakenBack
 pub mod Whole
