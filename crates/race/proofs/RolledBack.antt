@@ -1,11 +1,13 @@
 -- Sessions that undo what transactions wrote.
-use Rattle.std.proofs.Common.{◌≡◌, ◌⊎◌, ℕ, zero, suc, List, [], ◌∷◌, ◌++◌, Option, Some, None, Result, Ok, Err, refl, sym, ap, subst, ◌∙◌, inl, inr, append_assoc}
+use Rattle.std.proofs.Common.{◌≡◌, ◌⊎◌, ℕ, zero, suc, List, [], ◌∷◌, ◌++◌, Option, Some, None, Result, Ok, Err}
+use Rattle.std.proofs.Common.{refl, sym, ap, subst, ◌∙◌, inl, inr, append_assoc}
 use Rattle.std.proofs.lemmas.List.{append-nil}
 use Rattle.std.specs.Prelude.{IfSome, OnOk, OnErr}
 use mathlib.Core.List.{IsPrefix}
 use Rattle.keybytes.specs.declared.fault.Fault.{Fault}
 use Rattle.heap_log.specs.Standing.{newest_standing, standing_count}
 use Rattle.heap_log.specs.declared.record.LogRec.{LogRec}
+use Rattle.heap_log.specs.declared.record.LogRec.TheVariants.{Undo}
 use Rattle.heap_table.proofs.Holding.{none_standing}
 use Rattle.crew.specs.Receipts.{Undid}
 use Rattle.race.specs.Commands.{Left, LosesNothing, OnlySees, RollsBack, RollsBackAll, StepsBack, StepsBackOften}
@@ -21,9 +23,13 @@ loses_both old mid new first then =
 
 module _ (txn : ℕ) where
   step_loses : (old new : Left) → StepsBack txn old new → LosesNothing old new
-  step_loses old new (inl (receipt, kept, before, n, newest, goes_on, is, all)) =
-      (prefix_trans old.log before new.log goes_on (_, sym is ∙ sym all), (receipt ∷ [], sym kept))
-  step_loses old new (inr ((kept, goes_on), none)) = (goes_on, ([], append-nil old.receipts ∙ sym kept))
+  step_loses old new (inl undone) =
+      let undid = undone.2 in
+      let wrote = undid.3 in (
+        prefix_trans old.log undid.0 new.log wrote.0 (Undo txn undid.1 ∷ [], sym wrote.1 ∙ sym wrote.2),
+        (undone.0 ∷ [], sym undone.1),
+      )
+  step_loses old new (inr saw) = (saw.0.1, ([], append-nil old.receipts ∙ sym saw.0.0))
 
   -- a step loses nothing, whether it was refused or not
   pub told_loses : (old new : Left) (told : Result ℕ Fault) → OnOk told (StepsBack txn old new) → OnErr told (OnlySees old new) → LosesNothing old new

@@ -55,7 +55,9 @@ fewer_step heap txn None is some =
 fewer_step heap txn (Some n) is some = fewer heap.log txn n is
 
 -- where writes are left, there are fewer than before
-pub fewer_left : (old new : HeapState) (txn : ℕ) (told : Undone) → Undoes txn old told new → 0 < told.left → standing_count new.log txn < standing_count old.log txn
+pub fewer_left :
+    (old new : HeapState) (txn : ℕ) (told : Undone) → Undoes txn old told new → 0 < told.left
+    → standing_count new.log txn < standing_count old.log txn
 fewer_left old new txn told (number, left, after) some =
     subst (λ (heap : HeapState). standing_count heap.log txn < standing_count old.log txn) (sym after)
     (fewer_step old txn (newest_standing old.log txn) refl

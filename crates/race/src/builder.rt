@@ -105,12 +105,7 @@ fn undecided<T: Opened>(fault: Fault, back: HandedBack) -> Built<T>
 }
 
 /// What a build that decided gave.
-fn decided<T: Opened>(
-    alloc: Global,
-    plan: &Plan,
-    report: Report<T>,
-    back: HandedBack,
-) -> Built<T>
+fn decided<T: Opened>(alloc: Global, plan: &Plan, report: Report<T>, back: HandedBack) -> Built<T>
     requires { IsReport T.opening plan.now.specs.items report.receipt report.verdicts (lists_in report.pairs) }
     ensures back { result.back ≡ back }
     ensures decided { IsOk result.build }

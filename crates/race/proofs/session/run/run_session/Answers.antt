@@ -7,7 +7,8 @@ use Rattle.race.proofs.session.run.run_session.Goals as goal
 
 -- nothing is open yet, and no receipt kept
 from_nothing :
-    (commands : List SessionCommand) (labels : Labels) (log : List LogRec) (active : List ℕ) (receipts : List (List LogRec)) (accepted : ℕ) (taken : SessionState)
+    (commands : List SessionCommand) (labels : Labels) (log : List LogRec) (active : List ℕ) (receipts : List (List LogRec))
+    (accepted : ℕ) (taken : SessionState)
     → active ≡ [] → receipts ≡ [] → TakesAll commands 0 (state_of labels active log receipts) accepted taken
     → TakesAll commands 0 (state_of labels [] log []) accepted taken
 from_nothing commands labels log active receipts accepted taken none_open none takes =
@@ -26,5 +27,6 @@ returns-clause-ended g c =
       takes = from_nothing c.args.commands.items c.new-running.result.labels c.args.session c.new-running.result.open_txns.items
           c.new-running.result.receipts.items told.result taken c.new-running.ensures.active c.new-running.ensures.receipts told.ensures.takes;
       undoes = subst (λ (log : List LogRec). LosesNothing taken.left (ended log)) (sym c.into_known.ensures) c.roll_back_all.ensures.kept;
-      rolls_back = subst (λ (log : List LogRec). RollsBackAll taken.active taken.left (ended log)) (sym c.into_known.ensures) c.roll_back_all.ensures.rolls_back;
+      rolls_back = subst (λ (log : List LogRec). RollsBackAll taken.active taken.left (ended log)) (sym c.into_known.ensures)
+          c.roll_back_all.ensures.rolls_back;
     }
