@@ -80,7 +80,7 @@ own_of_new quota (kind ∷ kinds) =
     (stakes_in (map (new_stake quota) kinds)) refl (own_of_new quota kinds)
 
 pages_of_new : (quota : ℕ) (kinds : List SpoolKind) → sum_by pages_of (stakes_in (map (new_stake quota) kinds)) ≡ length kinds * quota
-pages_of_new quota [] = refl
+pages_of_new quota [] = omega arith
 pages_of_new quota (kind ∷ kinds) =
     let first = sum_by-cons pages_of (record { kind = kind; share = record { pool = 0; quota = quota } }) (stakes_in (map (new_stake quota) kinds)) in
     omega (arith, first, pages_of_new quota kinds)
