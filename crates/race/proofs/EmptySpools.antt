@@ -1,12 +1,8 @@
 -- Spools that hold nothing yet.
-use Rattle.std.proofs.Common.{◌≡◌, ◌==◌, ℕ, zero, suc, Bool, true, List, [], ◌∷◌, All, length, map, replicate, ap, Result, Ok, Err}
-use Rattle.std.specs.Prelude.{IfErr}
+use Rattle.std.proofs.Common.{◌≡◌, ◌==◌, ℕ, zero, suc, Bool, true, List, [], ◌∷◌, All, length, map, replicate, ap}
 use Rattle.std.proofs.lemmas.Bool.{and_parts, eqb-true}
 use Rattle.std.proofs.lemmas.List.{nil_from_length}
 use Rattle.std.proofs.lemmas.List.Elements.{All-cons, All-nil}
-use Rattle.keybytes.specs.Keys.{KeySpecValue}
-use Rattle.keybytes.specs.declared.fault.Fault.{Fault}
-use Rattle.keybytes.specs.declared.fault.Fault.TheVariants.{Behind, Busy, SpoolNotEmpty}
 use Rattle.keybytes.specs.declared.pair.Pair.{Pair}
 use Rattle.run_spool.specs.PagedSpools.{runs_of}
 use Rattle.run_spool.specs.Runs.{pairs_of}
@@ -15,7 +11,6 @@ use Rattle.prefix_spool.specs.Kinds.{inside}
 use Rattle.prefix_spool.specs.declared.either.SpoolOfKind.{SpoolOfKind}
 use Rattle.run_spool.specs.declared.choice.SpoolChoice.{SpoolChoice}
 use Rattle.leased_core.specs.Leasing.{new_spools, spools_of_kinds}
-use Rattle.crew.specs.Reports.{EndsFor, HasUnique}
 
 nothing_held : (runs : List (List Pair)) (open_run : List Pair) → holds_nothing runs open_run ≡ true → (runs ≡ []) × (open_run ≡ [])
 nothing_held runs open_run e =
@@ -47,12 +42,3 @@ pub new_bare :
     (choice : SpoolChoice) (count quota : ℕ) (spools : List SpoolOfKind) → spools_of_kinds spools ≡ new_spools choice count quota
     → All (λ spool. (runs_of (inside spool) ≡ []) × (pairs_of (inside spool).open_run ≡ [])) spools
 new_bare choice count quota spools e = all_bare count spools (same_at (spools_of_kinds spools) (new_spools choice count quota) (λ s. s.left) e)
-
--- a fault of a build over spools that hold nothing
-pub ends_for :
-    {R F : Type 0} (fault_of : F → Fault) (Bare : Type 0) (specs : List KeySpecValue) (told : Result R F)
-    → Bare → IfErr told (λ fault. fault_of fault ≡ SpoolNotEmpty → Bare → ⊥)
-    → IfErr told (λ fault. (count : ℕ) → fault_of fault ≡ Busy count → HasUnique specs)
-    → IfErr told (λ fault. (left : ℕ) → fault_of fault ≡ Behind left → ⊥) → IfErr told (λ fault. EndsFor specs (fault_of fault))
-ends_for fault_of Bare specs (Ok report) bare full busy behind = tt
-ends_for fault_of Bare specs (Err fault) bare full busy behind = record { not_full = λ is. full is bare; busy = busy; not_behind = behind }

@@ -1,5 +1,5 @@
 -- Sessions that undo what transactions wrote.
-use Rattle.std.proofs.Common.{◌≡◌, ◌⊎◌, ℕ, zero, suc, List, [], ◌∷◌, ◌++◌, Option, Some, None, Result, Ok, Err}
+use Rattle.std.proofs.Common.{◌≡◌, ℕ, zero, suc, List, [], ◌∷◌, ◌++◌, Option, Some, None, Result, Ok, Err}
 use Rattle.std.proofs.Common.{refl, sym, ap, subst, ◌∙◌, inl, inr, append_assoc}
 use Rattle.std.proofs.lemmas.List.{append-nil}
 use Rattle.std.specs.Prelude.{IfSome, OnOk, OnErr}
@@ -10,7 +10,7 @@ use Rattle.heap_log.specs.declared.record.LogRec.{LogRec}
 use Rattle.heap_log.specs.declared.record.LogRec.TheVariants.{Undo}
 use Rattle.heap_table.proofs.Holding.{none_standing}
 use Rattle.crew.specs.Receipts.{Undid}
-use Rattle.race.specs.Commands.{Left, LosesNothing, OnlySees, RollsBack, RollsBackAll, StepsBack, StepsBackOften}
+use Rattle.race.specs.Commands.{Left, LosesNothing, OnlySees, RollsBack, StepsBack, StepsBackOften}
 
 prefix_trans : {X : Type 0} (a b c : List X) → IsPrefix a b → IsPrefix b c → IsPrefix a c
 prefix_trans {X} a b c first then =
@@ -35,10 +35,6 @@ module _ (txn : ℕ) where
   pub told_loses : (old new : Left) (told : Result ℕ Fault) → OnOk told (StepsBack txn old new) → OnErr told (OnlySees old new) → LosesNothing old new
   told_loses old new (Ok left) ok refused = step_loses old new ok
   told_loses old new (Err fault) ok refused = (refused.1, ([], append-nil old.receipts ∙ sym refused.0))
-
-  -- no step was done
-  pub rolled_none : (old : Left) → RollsBack txn old old
-  rolled_none old = (0, refl)
 
   -- one step more, which was refused or not
   pub rolled_more :
@@ -66,12 +62,3 @@ module _ (txn : ℕ) where
   left_standing left old new None undid count none =
       let it = none refl in
       it.0 ∙ sym (none_standing new txn it.1)
-
--- the first of these is rolled back, and then the others
-pub rolled_next :
-    (txn : ℕ) (txns rest : List ℕ) (old mid end : Left) → txns ≡ txn ∷ rest → RollsBack txn old mid → RollsBackAll rest mid end → RollsBackAll txns old end
-rolled_next txn txns rest old mid end next first others = subst (λ (them : List ℕ). RollsBackAll them old end) (sym next) (mid, first, others)
-
--- none is left to be rolled back
-pub rolled_all : (txns : List ℕ) (old : Left) → txns ≡ [] → RollsBackAll txns old old
-rolled_all txns old none = subst (λ (them : List ℕ). RollsBackAll them old old) (sym none) refl

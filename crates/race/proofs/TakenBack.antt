@@ -9,7 +9,7 @@ use Rattle.heap_log.specs.Standing.{record_at, undone, is_write_of, count_below,
 use Rattle.heap_log.proofs.Last.{IsLast, last_below_some, count_below-more, count_below_taken}
 use Rattle.heap_log.proofs.Records.{record_at-kept, record_at-added, length-added, undone-added, or_no}
 use Rattle.heap_table.specs.Calls.{Undoes}
-use Rattle.heap_table.specs.HeapState.{HeapState, after_begin, after_step, is_open, still_open, without}
+use Rattle.heap_table.specs.HeapState.{HeapState, after_step, is_open, still_open, without}
 use Rattle.heap_table.specs.declared.open_txn.OpenTxn.{OpenTxn}
 use Rattle.heap_table.specs.declared.undone.Undone.{Undone}
 use Rattle.heap_table.proofs.Holding.{none_standing}

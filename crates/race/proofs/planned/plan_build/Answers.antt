@@ -1,6 +1,5 @@
 use Rattle.std.proofs.Common.{◌≡◌, ◌*◌, ℕ, rules, refl, ap, ◌∙◌, vec_len, arith, length}
 use Rattle.std.proofs.lemmas.List.{length-map}
-use Rattle.std.proofs.lemmas.Grind.{common_steps}
 use Rattle.leased_core.specs.Leasing.{new_spools}
 use Rattle.replay.specs.Listings.{key_spec_of}
 use Rattle.run_spool.specs.Choices.{kinds_from}
@@ -13,7 +12,7 @@ returns c =
     let specs = c.in_ok-key_specs.ensures.ok in
     let told = c.len-2.ensures in
     let many = ap length specs ∙ length-map c.args.build.specs.items (key_spec_of c.args.schema.now) in
-    let count : c.len-2.result ≡ vec_len c.args.build.specs = first_of (omega (arith, many, told), grind (arith, common_steps, many, told)) in
+    let count : c.len-2.result ≡ vec_len c.args.build.specs = omega (arith, many, told) in
     record {
       limits = search rules;
       specs = specs;
