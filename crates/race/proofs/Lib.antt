@@ -1,4 +1,7 @@
 mod Crosses
+mod EmptySpools
 mod Gathering
 mod PassedOver
+mod RolledBack
+mod TakenBack
 pub mod Whole

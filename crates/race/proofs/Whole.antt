@@ -1,11 +1,12 @@
 -- What is reported of a race as a whole.
-use Rattle.std.proofs.Common.{◌≡◌, ◌-◌, ℕ, List, [], All, length, take, Some, None, Option, Result, Ok, Err, inl, subst, sym}
+use Rattle.std.proofs.Common.{◌≡◌, ◌-◌, ℕ, List, [], All, length, take, Some, None, Option, Result, Ok, Err, inl, inr, subst, sym}
 use Rattle.std.specs.Prelude.{Contains, IfOk, IfSome, option_to_list}
 use Rattle.std.proofs.lemmas.List.Elements.{All-contains, All-head}
 use mathlib.Core.List.{IsPrefix}
 use Rattle.keybytes.specs.declared.fault.Fault.{Fault}
 use Rattle.keybytes.specs.declared.kind.Kind.{Kind}
 use Rattle.crew.specs.Receipts.{missing_of}
+use Rattle.crew.specs.Reports.{EndsFor}
 use Rattle.heap_log.specs.declared.record.LogRec.{LogRec}
 use Rattle.replay.specs.Limits.{table_refusal}
 use Rattle.script.specs.declared.race.build.Build.{Build}
@@ -29,8 +30,10 @@ pub ends_build : (opening : List LogRec) (switched : Option (List LogRec)) (work
     → PlansBuild workers schema choice build planned → EndsPlanned opening switched planned ended → EndsBuild opening switched workers schema build ended
 ends_build opening switched workers schema choice build (Ok planned) (Ok outcome) plan ends =
     (plan.limits, subst (λ specs. IsOutcomeIn opening specs switched outcome) plan.specs ends)
-ends_build opening switched workers schema choice build (Ok planned) (Err fault) plan ends = inl plan.limits
-ends_build opening switched workers schema choice build (Err fault) ended plan ends = subst (EndsBuild opening switched workers schema build) (sym ends) plan
+ends_build opening switched workers schema choice build (Ok planned) (Err fault) plan ends =
+    (ends.0, inr (plan.limits, subst (λ specs. EndsFor specs fault) plan.specs ends.1))
+ends_build opening switched workers schema choice build (Err fault) ended plan ends =
+    subst (EndsBuild opening switched workers schema build) (sym ends.0) (ends.1, inl plan)
 
 -- what was decided is behind the receipt that came first
 begins_in : (log : List LogRec) (switched : Option (List LogRec)) (receipts : List (List LogRec)) → All (λ r. take (length r) log ≡ r) receipts

@@ -4,7 +4,7 @@ use mathlib.Core.List.{IsPrefix}
 use Rattle.heap_log.specs.declared.record.LogRec.{LogRec}
 use Rattle.script.specs.declared.race.session_command.SessionCommand.{SessionCommand}
 use Rattle.script.specs.declared.race.session_step.SessionStep.{SessionStep}
-use Rattle.race.specs.Commands.{HasEnded, SessionState}
+use Rattle.race.specs.Commands.{HasEnded, Left}
 use Rattle.race.specs.declared.session_line.SessionLine.{SessionLine}
 use Rattle.race.specs.declared.session_script.SessionScript.{SessionScript}
 
@@ -37,7 +37,7 @@ AreSessionsOf steps sessions = map share_of sessions ≡ shares 8 steps
 -- what a session leaves: what is told of it, what it knew of the log in the end, and its receipts, each as the beginning of the log that it stands for
 pub record EndedValue : Type 0 where
   pub line : SessionLine
-  pub left : SessionState
+  pub left : Left
 
 -- the session ran its commands, and knew at first a log that goes on from `opening`; it tells how many of them were accepted, and that the others were
 -- refused

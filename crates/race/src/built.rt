@@ -1,6 +1,7 @@
 use crate::outcome::Outcome;
 use crew::{Opened, Receipt};
 use keybytes::Fault;
+use leased_core::HandedBack;
 
 /// What the build of a race gave.
 #[derive(Drop)]
@@ -9,6 +10,6 @@ pub struct Built<T: Opened> {
     pub build: Result<Outcome, Fault>,
     /// For the log's record of the switch.
     pub receipt: Option<Receipt<T>>,
-    /// How many pages that its spools leased are missing.
-    pub pages: usize,
+    /// The pool of the pages that its spools leased, and how many of these are missing.
+    pub back: HandedBack,
 }

@@ -1,6 +1,6 @@
 //! Whether ready indexes have the pairs of the rows.
-ghost use Rattle.std.specs.Prelude.{◌≡◌, ◌<◌, ◌≤◌, [], IfOk, length, true, false, vec_capacity};
-ghost use Rattle.race.specs.Resting.{AreChecked};
+ghost use Rattle.std.specs.Prelude.{◌≡◌, ◌<◌, ◌≤◌, [], IfErr, IfOk, length, true, false, vec_capacity};
+ghost use Rattle.race.specs.Resting.{AreChecked, SaysSame};
 
 use crate::check_line::CheckLine;
 use btree::Tree;
@@ -20,7 +20,7 @@ pub fn check_all<T: TableRings>(live: &mut Live<T>, lines: &mut Vec<CheckLine>)
 
 fn check<T: TableRings>(live: &mut Live<T>, number: usize) -> CheckLine
     requires { number < length live.old.state.ready }
-    ensures same { ¬ (result ≡ CheckLine.Differs) }
+    ensures same { SaysSame result }
     ensures ready { live.new.state.ready ≡ live.old.state.ready }
 {
     match is_same(live, number) {
@@ -30,19 +30,17 @@ fn check<T: TableRings>(live: &mut Live<T>, number: usize) -> CheckLine
     }
 }
 
-/// Whether the ready index of that number has the pairs that a build at rest gives.
+/// Whether the ready index of that number has the pairs that a build at rest gives. It is of the table's columns, so that only want of memory hides it.
 fn is_same<T: TableRings>(live: &mut Live<T>, number: usize) -> Result<bool, Fault>
     requires { number < length live.old.state.ready }
     ensures same { IfOk result (λ same. same ≡ true) }
+    ensures memory { IfErr result (λ fault. fault ≡ Fault.Memory) }
     ensures ready { live.new.state.ready ≡ live.old.state.ready }
 {
     let Some(index) = live.ready().get(number) else {
         unreachable!()
     };
     let spec = index.spec().clone()?;
-    if !spec.is_of(live.heap().schema()) {
-        return Err(Fault::BadColumn);
-    }
     let pairs = live.rest(&spec)?;
     let Some(index) = live.ready().get(number) else {
         unreachable!()

@@ -1,6 +1,7 @@
 //! The rows that the table of a race has first.
-ghost use Rattle.std.specs.Prelude.{◌⊎◌, OnErr, OnOk};
-ghost use Rattle.race.specs.Rows.{HasPassedOver, HasPut, HasPutRows};
+ghost use Rattle.std.specs.Prelude.{◌≡◌, ◌≢◌, ◌⊎◌, true, false, IfErr, OnErr, OnOk};
+ghost use Rattle.heap_table.specs.HeapState.{is_open, without};
+ghost use Rattle.race.specs.Rows.{HasPassedOver, HasPut, HasPutRows, OpensNone};
 
 use heap_table::{Heap, Undone};
 use keybytes::{Cell, Fault, Row};
@@ -18,33 +19,45 @@ pub fn put_rows(heap: &mut Heap, rows: Vec<Vec<Cell>>)
 fn put_row(heap: &mut Heap, cells: Vec<Cell>) -> Result<(), Fault>
     ensures put { OnOk result (HasPut cells.items heap.old.state.log heap.new.state.log) }
     ensures refused { OnErr result (HasPassedOver heap.old.state.log heap.new.state.log) }
+    ensures ended { OnOk result (OpensNone heap.old.state heap.new.state) }
+    ensures taken_back { IfErr result (λ fault. fault ≢ Fault.Memory → OpensNone heap.old.state heap.new.state) }
 {
     let row = Row::new(cells)?;
     let txn = heap.begin()?;
-    let put = insert(heap, txn, row);
-    if put.is_err() {
-        take_back(heap, txn);
+    match insert(heap, txn, row) {
+        Ok(()) => Ok(()),
+        Err(fault) => {
+            if take_back(heap, txn) {
+                Err(fault)
+            } else {
+                Err(Fault::Memory)
+            }
+        }
     }
-    put
 }
 
 fn insert(heap: &mut Heap, txn: u64, row: Row) -> Result<(), Fault>
     ensures put { OnOk result (HasPut row heap.old.state.log heap.new.state.log) }
     ensures refused { OnErr result (HasPassedOver heap.old.state.log heap.new.state.log) }
+    ensures ended { OnOk result (heap.new.state.active ≡ without txn heap.old.state.active) }
+    ensures open_still { OnErr result (heap.new.state.active ≡ heap.old.state.active) }
 {
     let _written = heap.insert(txn, row)?;
     let _number = heap.commit(txn)?;
     Ok(())
 }
 
-/// Undoes the two records that a transaction may have at most. Where there is no memory for an undo, it stays open.
-fn take_back(heap: &mut Heap, txn: u64)
-    ensures { HasPassedOver heap.old.state.log heap.new.state.log }
+/// Undoes the writes of a transaction until it has ended. Where there is no memory for an undo, it stays open. Answers whether it has ended.
+fn take_back(heap: &mut Heap, txn: u64) -> bool
+    ensures passed { HasPassedOver heap.old.state.log heap.new.state.log }
+    ensures ended { result ≡ true → is_open heap.new.state.active txn ≡ false }
+    ensures others { OpensNone heap.old.state heap.new.state }
 {
     let Ok(Undone { left, .. }) = heap.undo_step(txn) else {
-        return;
+        return false;
     };
     if left > 0 {
-        let _undone = heap.undo_step(txn);
+        return take_back(heap, txn);
     }
+    true
 }

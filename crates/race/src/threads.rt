@@ -171,12 +171,12 @@ pub fn run_beside<
             let Built {
                 build,
                 receipt,
-                pages,
+                back,
             } = run_build(rt, alloc, table, ends, planned, watch);
             let mut gathered = gathered;
             gathered.keep_first(receipt);
             gather(rt, handles, ended, &mut gathered);
-            (build, pages, gathered)
+            (build, back.missing, gathered)
         },
     )
 }

@@ -1,5 +1,5 @@
 ghost use Rattle.std.specs.Prelude.{◌≡◌, ◌≤◌, ◌+◌, length};
-ghost use Rattle.race.specs.Commands.{HasEnded, TakesAll};
+ghost use Rattle.race.specs.Commands.{HasEnded, TakesAll, state_of};
 
 use crate::session::SessionEnd;
 use crate::session::running::Running;
@@ -39,8 +39,9 @@ fn obey_all<T: Opened, R: Wait>(
     commands: Vec<SessionCommand>,
 ) -> usize
     ensures some { result ≤ length commands.items }
-    ensures takes { TakesAll commands.items 0 (record { log = session.old; receipts = running.old.receipts.items })
-        result (record { log = session.new; receipts = running.new.receipts.items }) }
+    ensures takes { TakesAll commands.items
+        0 (state_of running.old.labels running.old.open_txns.items session.old running.old.receipts.items)
+        result (state_of running.new.labels running.new.open_txns.items session.new running.new.receipts.items) }
 {
     let mut accepted = 0;
     for command in commands {

@@ -1,5 +1,7 @@
-ghost use Rattle.std.specs.Prelude.{◌≡◌, [], OnOk, OnErr};
-ghost use Rattle.race.specs.Commands.{LosesNothing, Obeys, StepsBack, OnlySees};
+ghost use Rattle.std.specs.Prelude.{◌≡◌, [], IfOk, OnOk, OnErr};
+ghost use Rattle.heap_log.specs.Standing.{standing_count};
+ghost use Rattle.replay.specs.Labels.{NamesNone};
+ghost use Rattle.race.specs.Commands.{LosesNothing, Obeys, OnlySees, Refuses, RollsBack, RollsBackAll, StepsBack, state_of, still_active, without};
 
 use crew::{Opened, Receipt, Session, UndoStep};
 use keybytes::{Cell, Fault, Rid, Row};
@@ -16,20 +18,22 @@ const RETRIES: u32 = 1_000;
 #[derive(Drop)]
 pub struct Running<T: Opened> {
     alloc: Global,
-    labels: Labels,
+    pub labels: Labels,
     /// The transactions that it began and that haven't ended.
-    open: Vec<u64>,
+    pub open_txns: Vec<u64>,
     pub receipts: Vec<Receipt<T>>,
 }
 
 impl<T: Opened> Running<T> {
     pub fn new(alloc: Global) -> Running<T>
-        ensures { result.receipts.items ≡ [] }
+        ensures labels { NamesNone result.labels }
+        ensures active { result.open_txns.items ≡ [] }
+        ensures receipts { result.receipts.items ≡ [] }
     {
         Running {
             alloc,
             labels: Labels::new(alloc),
-            open: Vec::new(alloc),
+            open_txns: Vec::new(alloc),
             receipts: Vec::new(alloc),
         }
     }
@@ -42,10 +46,12 @@ impl<T: Opened> Running<T> {
         session: &mut Session<'_, T>,
         command: SessionCommand,
     ) -> Result<(), Fault>
-        ensures ok { OnOk result (Obeys command self.old.labels
-            (record { log = session.old; receipts = self.old.receipts.items }) (record { log = session.new; receipts = self.new.receipts.items })) }
-        ensures refused { OnErr result (OnlySees
-            (record { log = session.old; receipts = self.old.receipts.items }) (record { log = session.new; receipts = self.new.receipts.items })) }
+        ensures ok { OnOk result (Obeys command
+            (state_of self.old.labels self.old.open_txns.items session.old self.old.receipts.items)
+            (state_of self.new.labels self.new.open_txns.items session.new self.new.receipts.items)) }
+        ensures refused { OnErr result (Refuses command
+            (state_of self.old.labels self.old.open_txns.items session.old self.old.receipts.items)
+            (state_of self.new.labels self.new.open_txns.items session.new self.new.receipts.items)) }
     {
         match command {
             SessionCommand::Begin { label } => self.begin(rt, session, &label),
@@ -66,14 +72,18 @@ impl<T: Opened> Running<T> {
         session: &mut Session<'_, T>,
         label: &Label,
     ) -> Result<(), Fault>
-        ensures { OnlySees
-            (record { log = session.old; receipts = self.old.receipts.items }) (record { log = session.new; receipts = self.new.receipts.items }) }
+        ensures ok { OnOk result (Obeys (SessionCommand.Begin label.now)
+            (state_of self.old.labels self.old.open_txns.items session.old self.old.receipts.items)
+            (state_of self.new.labels self.new.open_txns.items session.new self.new.receipts.items)) }
+        ensures refused { OnErr result (Refuses (SessionCommand.Begin label.now)
+            (state_of self.old.labels self.old.open_txns.items session.old self.old.receipts.items)
+            (state_of self.new.labels self.new.open_txns.items session.new self.new.receipts.items)) }
     {
         self.labels.forget(label)?;
-        self.open.reserve(1)?;
+        self.open_txns.reserve(1)?;
         let txn = session.begin(rt)?;
         self.labels.name(label, txn);
-        self.open.push_reserved(txn);
+        self.open_txns.push_reserved(txn);
         Ok(())
     }
 
@@ -84,10 +94,12 @@ impl<T: Opened> Running<T> {
         label: &Label,
         cells: Vec<Cell>,
     ) -> Result<(), Fault>
-        ensures ok { OnOk result (Obeys (SessionCommand.Insert label.now cells) self.old.labels
-            (record { log = session.old; receipts = self.old.receipts.items }) (record { log = session.new; receipts = self.new.receipts.items })) }
-        ensures refused { OnErr result (OnlySees
-            (record { log = session.old; receipts = self.old.receipts.items }) (record { log = session.new; receipts = self.new.receipts.items })) }
+        ensures ok { OnOk result (Obeys (SessionCommand.Insert label.now cells)
+            (state_of self.old.labels self.old.open_txns.items session.old self.old.receipts.items)
+            (state_of self.new.labels self.new.open_txns.items session.new self.new.receipts.items)) }
+        ensures refused { OnErr result (Refuses (SessionCommand.Insert label.now cells)
+            (state_of self.old.labels self.old.open_txns.items session.old self.old.receipts.items)
+            (state_of self.new.labels self.new.open_txns.items session.new self.new.receipts.items)) }
     {
         let row = Row::new(cells)?;
         let txn = self.labels.txn(label)?;
@@ -105,10 +117,12 @@ impl<T: Opened> Running<T> {
         rid: Rid,
         cells: Vec<Cell>,
     ) -> Result<(), Fault>
-        ensures ok { OnOk result (Obeys (SessionCommand.Update label.now rid cells) self.old.labels
-            (record { log = session.old; receipts = self.old.receipts.items }) (record { log = session.new; receipts = self.new.receipts.items })) }
-        ensures refused { OnErr result (OnlySees
-            (record { log = session.old; receipts = self.old.receipts.items }) (record { log = session.new; receipts = self.new.receipts.items })) }
+        ensures ok { OnOk result (Obeys (SessionCommand.Update label.now rid cells)
+            (state_of self.old.labels self.old.open_txns.items session.old self.old.receipts.items)
+            (state_of self.new.labels self.new.open_txns.items session.new self.new.receipts.items)) }
+        ensures refused { OnErr result (Refuses (SessionCommand.Update label.now rid cells)
+            (state_of self.old.labels self.old.open_txns.items session.old self.old.receipts.items)
+            (state_of self.new.labels self.new.open_txns.items session.new self.new.receipts.items)) }
     {
         let row = Row::new(cells)?;
         let txn = self.labels.txn(label)?;
@@ -125,10 +139,12 @@ impl<T: Opened> Running<T> {
         label: &Label,
         rid: Rid,
     ) -> Result<(), Fault>
-        ensures ok { OnOk result (Obeys (SessionCommand.Delete label.now rid) self.old.labels
-            (record { log = session.old; receipts = self.old.receipts.items }) (record { log = session.new; receipts = self.new.receipts.items })) }
-        ensures refused { OnErr result (OnlySees
-            (record { log = session.old; receipts = self.old.receipts.items }) (record { log = session.new; receipts = self.new.receipts.items })) }
+        ensures ok { OnOk result (Obeys (SessionCommand.Delete label.now rid)
+            (state_of self.old.labels self.old.open_txns.items session.old self.old.receipts.items)
+            (state_of self.new.labels self.new.open_txns.items session.new self.new.receipts.items)) }
+        ensures refused { OnErr result (Refuses (SessionCommand.Delete label.now rid)
+            (state_of self.old.labels self.old.open_txns.items session.old self.old.receipts.items)
+            (state_of self.new.labels self.new.open_txns.items session.new self.new.receipts.items)) }
     {
         let txn = self.labels.txn(label)?;
         self.receipts.reserve(1)?;
@@ -143,10 +159,12 @@ impl<T: Opened> Running<T> {
         session: &mut Session<'_, T>,
         label: &Label,
     ) -> Result<(), Fault>
-        ensures ok { OnOk result (Obeys (SessionCommand.Commit label.now) self.old.labels
-            (record { log = session.old; receipts = self.old.receipts.items }) (record { log = session.new; receipts = self.new.receipts.items })) }
-        ensures refused { OnErr result (OnlySees
-            (record { log = session.old; receipts = self.old.receipts.items }) (record { log = session.new; receipts = self.new.receipts.items })) }
+        ensures ok { OnOk result (Obeys (SessionCommand.Commit label.now)
+            (state_of self.old.labels self.old.open_txns.items session.old self.old.receipts.items)
+            (state_of self.new.labels self.new.open_txns.items session.new self.new.receipts.items)) }
+        ensures refused { OnErr result (Refuses (SessionCommand.Commit label.now)
+            (state_of self.old.labels self.old.open_txns.items session.old self.old.receipts.items)
+            (state_of self.new.labels self.new.open_txns.items session.new self.new.receipts.items)) }
     {
         let txn = self.labels.txn(label)?;
         self.receipts.reserve(1)?;
@@ -163,16 +181,16 @@ impl<T: Opened> Running<T> {
         session: &mut Session<'_, T>,
         label: &Label,
     ) -> Result<(), Fault>
-        ensures ok { OnOk result (Obeys (SessionCommand.Undo label.now) self.old.labels
-            (record { log = session.old; receipts = self.old.receipts.items }) (record { log = session.new; receipts = self.new.receipts.items })) }
-        ensures refused { OnErr result (OnlySees
-            (record { log = session.old; receipts = self.old.receipts.items }) (record { log = session.new; receipts = self.new.receipts.items })) }
+        ensures ok { OnOk result (Obeys (SessionCommand.Undo label.now)
+            (state_of self.old.labels self.old.open_txns.items session.old self.old.receipts.items)
+            (state_of self.new.labels self.new.open_txns.items session.new self.new.receipts.items)) }
+        ensures refused { OnErr result (Refuses (SessionCommand.Undo label.now)
+            (state_of self.old.labels self.old.open_txns.items session.old self.old.receipts.items)
+            (state_of self.new.labels self.new.open_txns.items session.new self.new.receipts.items)) }
     {
         let txn = self.labels.txn(label)?;
         let left = self.undo_step(rt, session, txn)?;
-        if left == 0 {
-            self.end(txn);
-        }
+        self.end_without(txn, left);
         Ok(())
     }
 
@@ -187,7 +205,9 @@ impl<T: Opened> Running<T> {
             (record { log = session.old; receipts = self.old.receipts.items }) (record { log = session.new; receipts = self.new.receipts.items })) }
         ensures refused { OnErr result (OnlySees
             (record { log = session.old; receipts = self.old.receipts.items }) (record { log = session.new; receipts = self.new.receipts.items })) }
+        ensures left { IfOk result (λ left. left ≡ standing_count session.new txn) }
         ensures labels { self.new.labels ≡ self.old.labels }
+        ensures active { self.new.open_txns ≡ self.old.open_txns }
     {
         self.receipts.reserve(1)?;
         let UndoStep { receipt, left } = session.undo(rt, txn)?;
@@ -197,34 +217,58 @@ impl<T: Opened> Running<T> {
         Ok(left)
     }
 
+    /// The transaction isn't open any more, once none of its writes is left.
+    fn end_without(&mut self, txn: u64, left: usize)
+        ensures active { self.new.open_txns.items ≡ still_active txn left self.old.open_txns.items }
+        ensures labels { self.new.labels ≡ self.old.labels }
+        ensures receipts { self.new.receipts ≡ self.old.receipts }
+    {
+        if left == 0 {
+            self.end(txn);
+        }
+    }
+
     /// The transaction isn't open any more.
     fn end(&mut self, txn: u64)
-        ensures { self.new.receipts ≡ self.old.receipts }
+        ensures active { self.new.open_txns.items ≡ without txn self.old.open_txns.items }
+        ensures labels { self.new.labels ≡ self.old.labels }
+        ensures receipts { self.new.receipts ≡ self.old.receipts }
     {
-        self.open.retain(|open| *open != txn);
+        self.open_txns.retain(|other| *other != txn);
     }
 
     /// Undoes the transactions that are open, step by step. One for whose steps there is no memory stays open.
     pub fn roll_back_all<R: Wait>(&mut self, rt: &R, session: &mut Session<'_, T>)
-        ensures { LosesNothing
+        ensures kept { LosesNothing
+            (record { log = session.old; receipts = self.old.receipts.items }) (record { log = session.new; receipts = self.new.receipts.items }) }
+        ensures rolls_back { RollsBackAll self.old.open_txns.items
             (record { log = session.old; receipts = self.old.receipts.items }) (record { log = session.new; receipts = self.new.receipts.items }) }
     {
-        let open = mem::replace(&mut self.open, Vec::new(self.alloc));
-        for txn in open {
-            self.roll_back(rt, session, txn);
+        let open_txns = mem::replace(&mut self.open_txns, Vec::new(self.alloc));
+        for txn in open_txns {
+            let _stays_open = self.roll_back(rt, session, txn);
         }
     }
 
-    fn roll_back<R: Wait>(&mut self, rt: &R, session: &mut Session<'_, T>, txn: u64)
-        ensures { LosesNothing
+    /// Undoes the writes of a transaction that stand, step by step, until it has ended. Where a step is refused, it stays open.
+    fn roll_back<R: Wait>(
+        &mut self,
+        rt: &R,
+        session: &mut Session<'_, T>,
+        txn: u64,
+    ) -> Result<(), Fault>
+        ensures ended { OnOk result (standing_count session.new txn ≡ 0) }
+        ensures kept { LosesNothing
+            (record { log = session.old; receipts = self.old.receipts.items }) (record { log = session.new; receipts = self.new.receipts.items }) }
+        ensures rolls_back { RollsBack txn
             (record { log = session.old; receipts = self.old.receipts.items }) (record { log = session.new; receipts = self.new.receipts.items }) }
     {
         for _ in 0..u64::MAX {
-            match self.undo_patiently(rt, session, txn) {
-                Ok(0) | Err(_) => return,
-                Ok(_) => {}
+            if self.undo_patiently(rt, session, txn)? == 0 {
+                return Ok(());
             }
         }
+        Err(Fault::TxnEnding)
     }
 
     /// One step of a rollback, tried again where memory is wanted.
@@ -234,7 +278,10 @@ impl<T: Opened> Running<T> {
         session: &mut Session<'_, T>,
         txn: u64,
     ) -> Result<usize, Fault>
-        ensures { LosesNothing
+        ensures left { IfOk result (λ left. left ≡ standing_count session.new txn) }
+        ensures kept { LosesNothing
+            (record { log = session.old; receipts = self.old.receipts.items }) (record { log = session.new; receipts = self.new.receipts.items }) }
+        ensures rolls_back { RollsBack txn
             (record { log = session.old; receipts = self.old.receipts.items }) (record { log = session.new; receipts = self.new.receipts.items }) }
     {
         for _ in 0..RETRIES {

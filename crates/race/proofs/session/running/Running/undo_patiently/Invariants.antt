@@ -1,6 +1,10 @@
-use Rattle.race.specs.Commands.{LosesNothing}
+use Rattle.race.specs.Commands.{LosesNothing, RollsBack}
 use Rattle.race.proofs.session.running.Running.undo_patiently.Given as goal
 
 abbrev pub invariant-loop : goal.invariant-loop
-invariant-loop g l =
-    LosesNothing (record { log = l.initial.session; receipts = l.initial.self.receipts.items }) (record { log = l.session; receipts = l.self.receipts.items })
+invariant-loop g l = record {
+  kept : LosesNothing (record { log = l.initial.session; receipts = l.initial.self.receipts.items })
+      (record { log = l.session; receipts = l.self.receipts.items });
+  rolled : RollsBack l.txn (record { log = l.initial.session; receipts = l.initial.self.receipts.items })
+      (record { log = l.session; receipts = l.self.receipts.items });
+}
