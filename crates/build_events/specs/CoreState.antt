@@ -62,7 +62,7 @@ idle = record { workers = []; indexes = []; spoiled = None }
 abbrev pub spoiled_work : Fault → WorkState → WorkState
 spoiled_work fault work = record { workers = []; indexes = work.indexes; spoiled = Some fault }
 
--- the spools beside a table: pool and quota of the account behind each, if there is one, and of those that are left for the next
+-- the spools beside a table: what stands behind each, if there is an account, and of those that are left for the next
 -- start, whether each is empty
 pub record SpoolsState : Type 0 where
   pub stakes : List (Option Stake)

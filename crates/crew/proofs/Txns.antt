@@ -1,14 +1,15 @@
 -- What a session knows of a transaction that it begins, and of a refusal.
-use Rattle.std.proofs.Common.{◌≡◌, ℕ, ◌+◌, Bool, true, false, List, Option, refl, sym, ap, ◌∙◌, inl, inr}
+use Rattle.std.proofs.Common.{◌≡◌, ℕ, ◌+◌, Bool, true, false, List, Option, refl, sym, ap, ◌∙◌, inl, inr, arith}
 use Rattle.std.specs.Prelude.{◌==◌, ◌||◌}
-use Rattle.std.proofs.lemmas.Bool.{eq-eqb}
+use Rattle.std.proofs.lemmas.Bool.{cases_Bool, eq-eqb}
 use Rattle.keybytes.specs.Answered.{Refused}
 use Rattle.keybytes.specs.Faults.{RefusedFor}
 use Rattle.keybytes.specs.declared.fault.Fault.{Fault}
+use Rattle.keybytes.specs.declared.rid.Rid.{Rid}
 use Rattle.heap_log.specs.declared.record.LogRec.{LogRec}
 use Rattle.heap_table.specs.Calls.{Begins}
 use Rattle.heap_table.specs.HeapState.{HeapState, after_begin, is_open}
-use Rattle.heap_table.specs.Holders.{committed}
+use Rattle.heap_table.specs.Holders.{committed, wrote}
 use Rattle.heap_table.specs.Sound.{HoldsFollowLog}
 use Rattle.heap_table.proofs.OpenOnes.{open_begun}
 use Rattle.build_events.specs.CoreState.{LiveState}
@@ -30,6 +31,18 @@ begun_fresh old new now log txn does is holds known =
     ap (λ (h : HeapState). is_open h.active txn) left ∙ open_begun (old.heap.begun + 1) txn old.heap.active
     ∙ ap (λ (b : Bool). is_open old.heap.active txn || b) same ∙ or_true (is_open old.heap.active txn) in
     sym (ap (λ (l : List LogRec). committed l txn) (ap (λ (h : HeapState). h.log) left ∙ known)) ∙ holds.uncommitted txn opened
+
+-- nor has it written: who wrote was begun before
+pub begun_unwritten :
+    (old new : LiveState) (log : List LogRec) (txn : ℕ) → OnHeap Begins old txn new → HoldsFollowLog old.heap → old.heap.log ≡ log → (rid : Rid)
+    → wrote log txn rid ≡ false
+begun_unwritten old new log txn does holds known rid = elim (cases_Bool (wrote log txn rid)) [
+  | inl none ↦ none
+  | inr has ↦
+      let begun = holds.begun txn rid (ap (λ (l : List LogRec). wrote l txn rid) known ∙ has) in
+      let next : old.heap.begun + 1 ≡ txn = sym does.0.0 in
+      absurd (omega (arith, begun, next))
+]
 
 -- the cause of a refusal, as a call answers it
 pub refused_for :

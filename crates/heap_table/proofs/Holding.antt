@@ -176,6 +176,7 @@ holds_follow s h = record {
   alone = λ txn rid busy has. holder_is s h rid txn (sym (h.busy txn rid has) ∙ busy) has;
   is_open = λ txn rid e. holder_open s h rid txn e;
   held = λ txn n m rid e l by there at. h.held txn n m rid (holder_open s h rid txn e) l by there at;
+  begun = h.writers;
 }
 
 -- the holders stay where the same transactions wrote and the same are busy

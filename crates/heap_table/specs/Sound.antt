@@ -28,6 +28,8 @@ pub record HoldsFollowLog (s : HeapState) : Type 0 where
   pub is_open : (txn : ℕ) (rid : Rid) → holder s.log rid ≡ Some txn → is_open s.active txn ≡ true
   -- and from its first write there on, each write there is its own
   pub held : (txn n m : ℕ) (rid : Rid) → holder s.log rid ≡ Some txn → n < m → WritesAlone s.log txn rid n m
+  -- who wrote was begun
+  pub begun : (txn : ℕ) (rid : Rid) → wrote s.log txn rid ≡ true → txn ≤ s.begun
 
 -- who may write at a RID: an open transaction, where no other holds the RID
 pub record IsWriterAt (s : HeapState) (txn : ℕ) (rid : Rid) : Type 0 where

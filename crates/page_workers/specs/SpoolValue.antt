@@ -7,7 +7,7 @@ use Rattle.run_spool.specs.Spools.{all_pairs}
 use Rattle.run_maker.specs.FullSpools.{IsFullOf, WantsRun}
 use Rattle.run_merge.specs.Merging.{all_runs}
 
--- a spool: its closed runs, its open run, and pool and quota of the account behind it, if there is one
+-- a spool: its closed runs, its open run, and what stands behind it, if there is an account
 pub record SpoolValue : Type 0 where
   pub runs : List (List Pair)
   pub open_run : List Pair
@@ -32,7 +32,7 @@ open_runs_of spools = map (λ spool. spool.open_run) spools
 abbrev pub pairs_in : List SpoolValue → List Pair
 pairs_in spools = all_pairs (all_runs (runs_of spools))
 
--- pools and quotas of the accounts behind them
+-- what stands behind each
 abbrev pub stakes_of : List SpoolValue → List (Option Stake)
 stakes_of spools = map (λ spool. spool.stake) spools
 

@@ -18,7 +18,7 @@ abbrev pub IsFullOfKind : SpoolOfKind → Pair → Type 0
 IsFullOfKind (Plain spool) pair = IsFullSpool plain_size spool pair
 IsFullOfKind (Prefix spool) pair = IsFullSpool prefix_size spool pair
 
--- no pair of its closed runs was freed, as its kind counts the bytes of a page
+-- its closed runs are intact, as its kind counts the bytes of a page
 abbrev pub IsIntactOfKind : SpoolOfKind → Type 0
 IsIntactOfKind (Plain spool) = IsIntact plain_size spool
 IsIntactOfKind (Prefix spool) = IsIntact prefix_size spool

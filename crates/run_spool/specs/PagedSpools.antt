@@ -77,7 +77,7 @@ pub record IsPagedSpool (size : List ℕ → Pair → ℕ) (spool : PagedSpoolVa
   pub all_filled : All (IsFilled size) spool.runs
   pub fits : length spool.runs ≤ spool.account.quota
 
--- no pair of its closed runs was freed: each of their pages is packed still
+-- each page of its closed runs is packed, as where no pair of them was freed
 abbrev pub IsIntact : (List ℕ → Pair → ℕ) → PagedSpoolValue → Type 0
 IsIntact size spool = All (All (IsPacked size)) spool.runs
 

@@ -17,7 +17,7 @@ with_closed_run runs (first ∷ run) = runs ++ (first ∷ run) ∷ []
 abbrev pub NoneEmpty : {X : Type 0} → List (List X) → Type 0
 NoneEmpty runs = All (λ run. 0 < length run) runs
 
--- no pair of a closed run was freed, as where there is no closed run
+-- the closed runs are intact, as where none of their pairs was freed, or there is none
 abbrev pub NoneFreed : {S : Type 0} → (S → Type 0) → (S → List (List Pair)) → S → Type 0
 NoneFreed is_intact runs spool = (runs spool ≡ []) ⊎ is_intact spool
 
@@ -25,7 +25,7 @@ NoneFreed is_intact runs spool = (runs spool ≡ []) ⊎ is_intact spool
 abbrev pub AreSorted : List (List Pair) → Type 0
 AreSorted runs = All (λ run. IsSorted pair_cmp run) runs
 
--- a spool has no room left for a pair, though none was freed and its closed runs are in order
+-- a spool has no room left for a pair, though its closed runs are intact and in order
 abbrev pub IsFullIntact : {S : Type 0} → (S → Pair → Type 0) → (S → Type 0) → (S → List (List Pair)) → S → Pair → Type 0
 IsFullIntact is_full is_intact runs spool pair = is_full spool pair × NoneFreed is_intact runs spool × AreSorted (runs spool)
 

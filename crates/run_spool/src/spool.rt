@@ -19,7 +19,7 @@ pub trait Spool: Drop {
     /// No room is left for that pair.
     ghost is_full: { Self → Pair → Type 0 };
 
-    /// No pair of a closed run was freed.
+    /// The closed runs take the room that they took when they were closed, as where no pair of them was freed.
     ghost is_intact: { Self → Type 0 };
 
     /// Every page that was leased is back.
