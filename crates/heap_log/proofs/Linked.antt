@@ -13,6 +13,7 @@ use Rattle.heap_log.specs.declared.record.LogRec.TheVariants.{Write}
 use Rattle.heap_log.specs.declared.link.Link.{Link}
 use Rattle.heap_log.specs.declared.chain.Chain.{Chain}
 use Rattle.heap_log.specs.declared.chain.Chain.TheVariants.{OfTxn, AtRid}
+use Rattle.heap_log.specs.KeptNumbers.{number_in}
 use Rattle.heap_log.specs.Links.{AreLinks, AreMarked, IsLinkOf, LeadsTo, on_chain, link_before, stands_by}
 use Rattle.heap_log.specs.Standing.{record_at, undone, last_below, last_of, is_write_of, is_write_at, is_undo_of, place_of, txn_of, rid_of, newest_standing}
 use Rattle.heap_log.specs.Standing.{newest_at, NamesEarlier}
@@ -83,7 +84,7 @@ pub record Linked (log : List LogRec) (links : List Link) (n : ℕ) : Type 0 whe
   pub inside : n - 1 < length links
   pub flag : (link : Link) → link ≡ get_or links (n - 1) link → link.undone ≡ undone log n
   pub back : (link : Link) (chain : Chain) → link ≡ get_or links (n - 1) link → LeadsTo (on_chain chain (record_at log n)) log n (link_before chain link)
-  pub previous : (link : Link) → link ≡ get_or links (n - 1) link → link.previous ≡ last_of log (txn_of (record_at log n)) n
+  pub previous : (link : Link) → link ≡ get_or links (n - 1) link → number_in link.previous ≡ last_of log (txn_of (record_at log n)) n
 
 pub linked : (log : List LogRec) (links : List Link) → AreLinks log links → (n : ℕ) → IsSome (place_of (record_at log n)) → Linked log links n
 linked log links h zero some = absurd (false≢true some)
@@ -101,7 +102,7 @@ linked log links h (suc i) some =
           let P : Link → Type 0 = λ x. LeadsTo (on_chain chain (record_at log (suc i))) log (suc i) (link_before chain x) in
           let here : P (get_or links i link) = rw add-one at (h.back i link chain in' (rw add-one some)) in
           subst P (sym (rw less at is)) here;
-      previous = λ link is. ap (λ x. x.previous) (rw less at is) ∙ rw add-one at (h.previous i link in' (rw add-one some));
+      previous = λ link is. ap (λ x. number_in x.previous) (rw less at is) ∙ rw add-one at (h.previous i link in' (rw add-one some));
     }
 
 -- a walk along the chain of a write has come to the write m
@@ -151,8 +152,8 @@ leads_grow passes log rec n place l leads = record {
 }
 
 before_kept : (chain : Chain) (old new : Link) → new.of_txn ≡ old.of_txn → new.at_rid ≡ old.at_rid → link_before chain new ≡ link_before chain old
-before_kept OfTxn old new e f = e
-before_kept AtRid old new e f = f
+before_kept OfTxn old new e f = ap number_in e
+before_kept AtRid old new e f = ap number_in f
 
 pub links_grow : (log : List LogRec) (links marked : List Link) (rec : LogRec) (link : Link) → AreLinks log links → AreMarked rec links marked
     → NamesEarlier (length log) rec → IsLinkOf log rec link → AreLinks (log ++ rec ∷ []) (marked ++ link ∷ [])
@@ -194,8 +195,8 @@ links_grow log links marked rec link h m names is_link = record {
         let in' : i < length links = omega (arith, h.lengths) in
         let kept : record_at (log ++ rec ∷ []) (i + 1) ≡ record_at log (i + 1) = record_at-kept log rec (i + 1) (omega arith) in
         let some' : IsSome (place_of (record_at log (i + 1))) = rw kept at some in
-        ap (λ x. x.previous) (get_or_append_left marked (link ∷ []) d i (omega (arith, m.lengths)))
-        ∙ m.previous i d in' ∙ h.previous i d within some'
+        ap (λ x. number_in x.previous) (get_or_append_left marked (link ∷ []) d i (omega (arith, m.lengths)))
+        ∙ ap number_in (m.previous i d in') ∙ h.previous i d within some'
         ∙ sym (ap (λ r. last_of (log ++ rec ∷ []) (txn_of r) (i + 1)) kept ∙ last_of-kept log rec (txn_of (record_at log (i + 1))) (i + 1) (omega arith))
     | inr past ↦
         let i_is : i ≡ length log = omega (arith, length-append log (rec ∷ [])) in
@@ -210,11 +211,11 @@ links_grow log links marked rec link h m names is_link = record {
 
 -- the link of a write that comes next
 pub link_of-write : (log : List LogRec) (txn : ℕ) (rid : Rid) (row : Option (List Cell)) (link : Link) → link.undone ≡ false
-    → link.of_txn ≡ newest_standing log txn → link.at_rid ≡ newest_at log rid → link.previous ≡ last_of log txn (length log + 1)
+    → number_in link.of_txn ≡ newest_standing log txn → number_in link.at_rid ≡ newest_at log rid → number_in link.previous ≡ last_of log txn (length log + 1)
     → IsLinkOf log (Write txn rid row) link
 link_of-write log txn rid row link stands of at previous = record { stands = stands; back = leads; previous = λ some. previous }
   where
     leads : (chain : Chain) → IsSome (place_of (Some (Write txn rid row)))
         → LeadsTo (on_chain chain (Some (Write txn rid row))) log (length log + 1) (link_before chain link)
-    leads OfTxn some = newest_leads (is_write_of txn) log (length log + 1) link.of_txn of
-    leads AtRid some = newest_leads (is_write_at rid) log (length log + 1) link.at_rid at
+    leads OfTxn some = newest_leads (is_write_of txn) log (length log + 1) (number_in link.of_txn) of
+    leads AtRid some = newest_leads (is_write_at rid) log (length log + 1) (number_in link.at_rid) at

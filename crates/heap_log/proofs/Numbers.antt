@@ -74,3 +74,8 @@ last_at-writes log rid n (Some m) e = last_at-write log rid n m (sym e)
 pub newest_at-writes : (log : List LogRec) (rid : Rid) (place : Option ℕ) → place ≡ newest_at log rid → IfSome place (IsWrite log)
 newest_at-writes log rid None e = tt
 newest_at-writes log rid (Some n) e = write_at log rid n (stands_at-write log rid (length log + 1) n (sym e))
+
+-- the numbers of a log's records are not 0
+pub number_some : (log : List LogRec) (place : Option ℕ) → IfSome place (IsWrite log) → IfSome place (λ n. 0 < n)
+number_some log None is = tt
+number_some log (Some n) is = omega (arith, is.low)

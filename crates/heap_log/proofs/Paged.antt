@@ -1,5 +1,5 @@
 -- The heads of RIDs in the arrays of their pages.
-use Rattle.std.proofs.Common.{◌≡◌, ℕ, zero, suc, ◌+◌, ◌-◌, ◌<◌, ◌≤◌, Bool, true, false, List, [], ◌∷◌, ◌++◌, length, map, get_or, set, take, replicate, Some}
+use Rattle.std.proofs.Common.{◌≡◌, ℕ, zero, suc, ◌+◌, ◌-◌, ◌<◌, ◌≤◌, Bool, true, false, List, [], ◌∷◌, ◌++◌, length, map, get_or, set, take, replicate}
 use Rattle.std.proofs.Common.{refl, sym, ap, ◌∙◌, arith, inl, inr}
 use Rattle.std.specs.Prelude.{◌==◌, if◌then◌else◌}
 use Rattle.std.proofs.lemmas.Bool.{cases_eq, cases_lt, and_from, eq-eqb, false_from_ne_true}
@@ -9,13 +9,8 @@ use Rattle.keybytes.specs.Rids.{same_rid}
 use Rattle.keybytes.specs.declared.rid.Rid.{Rid}
 use Rattle.keybytes.proofs.SameRids.{same_rid-true}
 use Rattle.heap_log.specs.declared.rid_head.RidHead.{RidHead}
-use Rattle.heap_log.specs.PageHeads.{no_head, number_in, rid_head_in, places_of, IsReserved}
+use Rattle.heap_log.specs.PageHeads.{no_head, rid_head_in, places_of, IsReserved}
 use Rattle.heap_log.specs.Places.{HasPlace}
-
--- a number that is not 0 is kept as it is
-pub kept_number : (n : ℕ) → 0 < n → number_in n ≡ Some n
-kept_number zero some = absurd (omega arith)
-kept_number (suc n) some = refl
 
 -- how many slots of a page have places
 pub places_at : (pages : List (List RidHead)) (page : ℕ) → get_or (places_of pages) page 0 ≡ length (get_or pages page [])

@@ -1,5 +1,5 @@
 -- The heads that a record changes have places, and those of RIDs numbers that can be kept.
-use Rattle.std.proofs.Common.{◌≡◌, ℕ, ◌+◌, ◌<◌, true, List, length, Option, Some, None, refl, sym, ap, ◌∙◌, arith, inl, inr, subst}
+use Rattle.std.proofs.Common.{◌≡◌, ℕ, ◌+◌, ◌<◌, true, List, length, Option, Some, None, refl, sym, ap, ◌∙◌, inl, inr, subst}
 use Rattle.std.specs.Prelude.{IfSome}
 use Rattle.std.proofs.lemmas.Bool.{cases_lt, cond-true, eqb-true, false≢true}
 use Rattle.std.proofs.lemmas.List.{get_or_past}
@@ -16,17 +16,12 @@ use Rattle.heap_log.specs.Growing.{changed_rid, is_change_by}
 use Rattle.heap_log.specs.Heads.{rid_head, txn_head, AreHeadsAfter}
 use Rattle.heap_log.specs.PageHeads.{rid_head_in, places_of, IsNumbered}
 use Rattle.heap_log.specs.Places.{HasPlace, HasPlaceFor}
-use Rattle.heap_log.specs.Standing.{record_at, is_write_of, is_write_at, last_of, last_at, newest_at, place_of, IsWrite}
+use Rattle.heap_log.specs.Standing.{record_at, is_write_of, is_write_at, last_of, last_at, newest_at, place_of}
 use Rattle.heap_log.specs.TxnHeads.{no_txn_head, txn_head_in}
 use Rattle.heap_log.proofs.Last.{last_below_none}
-use Rattle.heap_log.proofs.Numbers.{last_at-writes, newest_at-writes}
+use Rattle.heap_log.proofs.Numbers.{last_at-writes, newest_at-writes, number_some}
 use Rattle.heap_log.proofs.Paged.{place_of_head}
 use Rattle.heap_log.proofs.Records.{write_within}
-
--- the numbers of a log's records are not 0
-number_some : (log : List LogRec) (place : Option ℕ) → IfSome place (IsWrite log) → IfSome place (λ n. 0 < n)
-number_some log None is = tt
-number_some log (Some n) is = omega (arith, is.low)
 
 head_numbered : (log : List LogRec) (rid : Rid) → IsNumbered (rid_head log rid)
 head_numbered log rid = record {

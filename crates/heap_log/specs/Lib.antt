@@ -1,6 +1,7 @@
 pub mod Copies
 pub mod Growing
 pub mod Heads
+pub mod KeptNumbers
 pub mod Links
 pub mod LogValue
 pub mod PageHeads

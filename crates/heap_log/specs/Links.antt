@@ -6,6 +6,7 @@ use Rattle.heap_log.specs.declared.link.Link.{Link}
 use Rattle.heap_log.specs.declared.chain.Chain.{Chain}
 use Rattle.heap_log.specs.declared.chain.Chain.TheVariants.{OfTxn, AtRid}
 use Rattle.heap_log.specs.Growing.{UndoesNameEarlier}
+use Rattle.heap_log.specs.KeptNumbers.{number_in}
 use Rattle.heap_log.specs.Standing.{undone, record_at, last_below, last_of, is_number, is_undo_of, is_write_of, is_write_at, place_of, txn_of, rid_of}
 
 -- whether a record is a write on the same chain as that write
@@ -15,8 +16,8 @@ on_chain AtRid write = is_write_at (rid_of write)
 
 -- where a link leads along the chain
 abbrev pub link_before : Chain → Link → Option ℕ
-link_before OfTxn link = link.of_txn
-link_before AtRid link = link.at_rid
+link_before OfTxn link = number_in link.of_txn
+link_before AtRid link = number_in link.at_rid
 
 -- whether that number is a standing record that passes the test
 abbrev pub stands_by : (Option LogRec → Bool) → List LogRec → ℕ → Bool
@@ -50,7 +51,7 @@ LinksBack log write n link chain = IsSome (place_of write) → LeadsTo (on_chain
 
 -- and it names the last write of the write's transaction before it
 abbrev pub NamesPrevious : List LogRec → Option LogRec → ℕ → Link → Type 0
-NamesPrevious log write n link = IsSome (place_of write) → link.previous ≡ last_of log (txn_of write) n
+NamesPrevious log write n link = IsSome (place_of write) → number_in link.previous ≡ last_of log (txn_of write) n
 
 -- the links go with the records
 pub record AreLinks (log : List LogRec) (links : List Link) : Type 0 where

@@ -1,19 +1,16 @@
 -- The heads of RIDs by page and slot.
-use Rattle.std.specs.Prelude.{◌≡◌, ℕ, zero, suc, ◌<◌, List, [], length, map, get_or, Option, Some, None, IfSome}
+use Rattle.std.specs.Prelude.{◌≡◌, ℕ, ◌<◌, List, [], length, map, get_or, None, IfSome}
 use Rattle.keybytes.specs.declared.rid.Rid.{Rid}
 use Rattle.heap_log.specs.declared.rid_head.RidHead.{RidHead}
 use Rattle.heap_log.specs.declared.slot_heads.PackedHead.{PackedHead}
+use Rattle.heap_log.specs.KeptNumbers.{number_in}
 use Rattle.heap_log.specs.Places.{HasPlace, KeepsPlaces}
 
 -- the head of a RID that no write was at
 abbrev pub no_head : RidHead
 no_head = record { last = None; newest = None }
 
--- the number that is kept so: 0 is none
-abbrev pub number_in : ℕ → Option ℕ
-number_in zero = None
-number_in (suc n) = Some (suc n)
-
+-- what is kept of a head
 abbrev pub unpacked : PackedHead → RidHead
 unpacked packed = record { last = number_in packed.last; newest = number_in packed.newest }
 

@@ -11,6 +11,7 @@
 
 mod chain;
 mod heads;
+mod kept_number;
 mod link;
 mod log;
 mod outcome;

@@ -1,19 +1,20 @@
-ghost use Rattle.std.specs.Prelude.{◌≡◌, None, false, length};
+ghost use Rattle.std.specs.Prelude.{◌≡◌, false, length};
 ghost use Rattle.heap_log.specs.Links.{link_before, AreMarked};
 ghost use Rattle.heap_log.specs.Standing.{NamesEarlier};
 
 use crate::LogRec;
 use crate::chain::Chain;
+use crate::kept_number::number_in;
 use chunk_list::ChunkList;
 
 /// What the log keeps beside a record. A write's links lead to the writes that were the newest standing ones when it
-/// came; those may be undone since.
+/// came; those may be undone since. Each is the number of a record as it is kept.
 #[derive(Clone, Copy)]
 pub(crate) struct Link {
-    pub of_txn: Option<usize>,
-    pub at_rid: Option<usize>,
+    pub of_txn: usize,
+    pub at_rid: usize,
     /// The transaction's write before this one, standing or not.
-    pub previous: Option<usize>,
+    pub previous: usize,
     /// An undo names this record.
     pub undone: bool,
 }
@@ -21,12 +22,12 @@ pub(crate) struct Link {
 impl Link {
     /// The link of a record that is no write.
     pub fn none() -> Link
-        ensures { result ≡ record { of_txn = None; at_rid = None; previous = None; undone = false } }
+        ensures { result ≡ record { of_txn = 0; at_rid = 0; previous = 0; undone = false } }
     {
         Link {
-            of_txn: None,
-            at_rid: None,
-            previous: None,
+            of_txn: 0,
+            at_rid: 0,
+            previous: 0,
             undone: false,
         }
     }
@@ -36,8 +37,8 @@ impl Link {
         ensures { result ≡ link_before chain self }
     {
         match chain {
-            Chain::OfTxn => self.of_txn,
-            Chain::AtRid => self.at_rid,
+            Chain::OfTxn => number_in(self.of_txn),
+            Chain::AtRid => number_in(self.at_rid),
         }
     }
 }

@@ -9,6 +9,7 @@ ghost use Rattle.heap_log.specs.Standing.{newest_standing, standing_before, stan
 use crate::LogRec;
 use crate::chain::Chain;
 use crate::heads::Heads;
+use crate::kept_number::{kept, number_in};
 use crate::link::{Link, mark_undone};
 use crate::page_heads::{PageHeads, set_rid_head};
 use crate::rid_head::RidHead;
@@ -205,7 +206,7 @@ impl Log {
         ensures value { result ≡ last_of self.now.records (txn_of (record_at self.now.records number)) number }
         ensures write { IfSome result (IsWrite self.now.records) }
     {
-        self.links[number - 1].previous
+        number_in(self.links[number - 1].previous)
     }
 
     /// Appends a record. Takes no memory.
@@ -264,9 +265,9 @@ impl Log {
             LogRec::Write { txn, rid, .. } => {
                 let of_txn = self.txn_head(*txn);
                 Link {
-                    of_txn: of_txn.newest,
-                    at_rid: self.rid_head(*rid).newest,
-                    previous: of_txn.last,
+                    of_txn: kept(of_txn.newest),
+                    at_rid: kept(self.rid_head(*rid).newest),
+                    previous: kept(of_txn.last),
                     undone: false,
                 }
             }

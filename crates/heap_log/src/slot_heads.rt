@@ -1,13 +1,14 @@
 //! The heads of one page, by slot.
 ghost use Rattle.std.specs.Prelude.{◌≡◌, ◌<◌, ◌≤◌, ◌+◌, ◌-◌, ◌++◌, [], length, get_or, set, replicate, unwrap_or, IsOk, IfErr, OnOk, OnErr};
-ghost use Rattle.heap_log.specs.PageHeads.{no_head, number_in, unpacked, IsNumbered};
+ghost use Rattle.heap_log.specs.PageHeads.{no_head, unpacked, IsNumbered};
 
+use crate::kept_number::{kept, number_in};
 use crate::rid_head::RidHead;
 use keybytes::Fault;
 use std::alloc::Global;
 use std::marker::Model;
 
-/// A head as it is kept, in half of its size: 0 is no record, since records are numbered from 1.
+/// A head as it is kept, in half of its size.
 #[derive(Clone, Copy)]
 pub(crate) struct PackedHead {
     pub last: usize,
@@ -19,8 +20,8 @@ fn packed(head: RidHead) -> PackedHead
     ensures { unpacked result ≡ head }
 {
     PackedHead {
-        last: head.last.unwrap_or(0),
-        newest: head.newest.unwrap_or(0),
+        last: kept(head.last),
+        newest: kept(head.newest),
     }
 }
 
@@ -31,12 +32,6 @@ fn unpacked(kept: PackedHead) -> RidHead
         last: number_in(kept.last),
         newest: number_in(kept.newest),
     }
-}
-
-fn number_in(kept: usize) -> Option<usize>
-    ensures { result ≡ number_in kept }
-{
-    if kept == 0 { None } else { Some(kept) }
 }
 
 /// The heads of a page's slots, in order of the slots. Contracts see them as a list.

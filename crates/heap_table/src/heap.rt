@@ -12,6 +12,7 @@ ghost use Rattle.heap_table.specs.Sound.{HoldsFollowLog, UndoFits};
 mod places;
 mod reading;
 mod ready_changes;
+mod row_bytes;
 mod transactions;
 mod undoing;
 mod writing;
@@ -38,6 +39,8 @@ pub struct Heap {
     visits: u64,
     /// Each write up to that record is of a transaction that has ended, so that nobody needs to look who wrote it.
     ended: usize,
+    /// Memory for the bytes of the next row that is written.
+    spare_bytes: Vec<u8>,
 }
 
 impl Drop for Heap {
@@ -53,6 +56,7 @@ impl Drop for Heap {
             fenced: _,
             visits: _,
             ended: _,
+            spare_bytes: _,
         } = self;
     }
 }
@@ -97,6 +101,7 @@ impl Heap {
             fenced: false,
             visits: 0,
             ended: 0,
+            spare_bytes: Vec::new(alloc),
         })
     }
 

@@ -108,10 +108,24 @@ impl Row {
             return Err(Fault::RowShape);
         }
         let mut bytes = Vec::new(*self.cells.allocator());
-        for cell in &self.cells {
-            push_cell(&mut bytes, cell)?;
-        }
+        self.write_bytes(&mut bytes)?;
         Ok(bytes)
+    }
+
+    /// Puts the bytes of the row in place of those that are there, which takes memory only where the list has no room for them.
+    pub fn write_bytes(&self, bytes: &mut Vec<u8>) -> Result<(), Fault>
+        ensures ok { OnOk result (bytes.new.items ≡ row_bytes self.now) }
+        ensures memory { IfErr result (λ fault. fault ≡ Fault.Memory) }
+        ensures is_row { OnOk result (IsRow self.now) }
+        ensures some { OnOk result (0 < length bytes.new.items) }
+        ensures size { OnOk result (length bytes.new.items ≤ 1224) }
+    {
+        bytes.clear();
+        bytes.reserve(self.size())?;
+        for cell in &self.cells {
+            push_cell(bytes, cell)?;
+        }
+        Ok(())
     }
 
     /// Reads the bytes of a row that fits the columns. A text's length above 100 is [`Fault::TextTooLong`] where the

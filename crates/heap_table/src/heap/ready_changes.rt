@@ -89,12 +89,15 @@ impl Heap {
         ensures unchanged { OnErr result (self.new ≡ self.old) }
         ensures memory { IfErr result (λ fault. fault ≡ Fault.Memory) }
     {
-        let bytes = row.to_bytes(&self.schema)?;
+        // That no row stands there is known once the pages are reached.
+        let _pages = &self.pages;
+        let new = Some(row);
+        let bytes = self.bytes_of(&new)?;
         self.reserve(rid)?;
         Ok(Ready {
             rid,
             old: None,
-            new: Some(row),
+            new,
             txn,
             undone: None,
             bytes,
@@ -125,13 +128,14 @@ impl Heap {
         ensures unchanged { OnErr result (self.new ≡ self.old) }
         ensures memory { IfErr result (λ fault. fault ≡ Fault.Memory) }
     {
-        let bytes = row.to_bytes(&self.schema)?;
+        let new = Some(row);
+        let bytes = self.bytes_of(&new)?;
         let old = self.read(rid)?;
         self.reserve(rid)?;
         Ok(Ready {
             rid,
             old: Some(old),
-            new: Some(row),
+            new,
             txn,
             undone: None,
             bytes,
@@ -158,7 +162,7 @@ impl Heap {
             new: None,
             txn,
             undone: None,
-            bytes: Vec::new(self.pages.allocator()),
+            bytes: self.take_bytes(),
         })
     }
 

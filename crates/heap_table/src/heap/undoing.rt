@@ -2,12 +2,11 @@
 ghost use Rattle.std.specs.Prelude.{◌≡◌, ℕ, length, Some, None, IsSome, IfSome, IfOk, IfErr, OnOk, OnErr};
 ghost use Rattle.keybytes.specs.Answered.{Answered};
 ghost use Rattle.keybytes.specs.Faults.{RefusedFor};
-ghost use Rattle.keybytes.specs.Rows.{shape_refusal};
 ghost use Rattle.heap_log.specs.Standing.{record_at, rid_of, place_of, row_at, newest_standing, standing_before, standing_count};
 ghost use Rattle.heap_table.specs.Calls.{OnState, Undoes};
 ghost use Rattle.heap_table.specs.HeapState.{undo_refusal, after_step};
 ghost use Rattle.heap_table.specs.Pages.{SetsRow};
-ghost use Rattle.heap_table.specs.Ready.{IsReady, IsSized, IsUndo, bytes_of_row};
+ghost use Rattle.heap_table.specs.Ready.{IsReady, IsUndo};
 
 use super::Heap;
 use super::transactions::has;
@@ -15,6 +14,7 @@ use crate::changes::{end, go_on_ending, undo_slot};
 use crate::{Ready, Undone};
 use heap_log::LogRec;
 use keybytes::{Fault, Rid, Row};
+use std::mem::swap;
 
 impl Heap {
     /// Makes the undo of the transaction's newest standing write ready, as [`Heap::undo_step`] would do it; none where no
@@ -68,7 +68,7 @@ impl Heap {
     }
 
     /// Performs the undo of the write of that number.
-    pub(super) fn undo(&mut self, number: usize, ready: Ready) -> Undone
+    pub(super) fn undo(&mut self, number: usize, mut ready: Ready) -> Undone
         requires ready { IsReady self.old ready }
         requires undo { ready.undone ≡ Some number }
         ensures undone { self.new.state ≡ after_step self.old.state ready.txn (Some number) }
@@ -85,6 +85,7 @@ impl Heap {
         });
         let left = self.log.standing(txn);
         go_on_ending(&mut self.open_txns, &mut self.pages, &self.log, txn, left);
+        swap(&mut self.spare_bytes, &mut ready.bytes);
         Undone {
             number: self.log.len(),
             left,
@@ -107,19 +108,6 @@ impl Heap {
         match self.log.rec(earlier) {
             LogRec::Write { row: Some(row), .. } => Ok((*rid, Some(row.clone()?))),
             _ => Ok((*rid, None)),
-        }
-    }
-
-    /// The bytes of a row that the table had, none without one.
-    fn bytes_of(&self, row: &Option<Row>) -> Result<Vec<u8>, Fault>
-        requires { IfSome row.now (λ cells. shape_refusal self.now.state.schema cells ≡ None) }
-        ensures ok { IfOk result (λ bytes. bytes.items ≡ bytes_of_row row.now) }
-        ensures size { OnOk result (IfSome row.now IsSized) }
-        ensures memory { IfErr result (λ fault. fault ≡ Fault.Memory) }
-    {
-        match row {
-            Some(row) => row.to_bytes(&self.schema),
-            None => Ok(Vec::new(self.pages.allocator())),
         }
     }
 }

@@ -11,6 +11,7 @@ use crate::Ready;
 use crate::changes::write_slot;
 use heap_log::LogRec;
 use keybytes::{Fault, Rid, Row};
+use std::mem::swap;
 
 impl Heap {
     /// Puts a row into the lowest page with room, and answers the record's number and the row's RID. [`Fault::NoSuchTxn`]
@@ -61,6 +62,7 @@ impl Heap {
             rid,
             row: ready.new.take(),
         });
+        swap(&mut self.spare_bytes, &mut ready.bytes);
         (self.log.len(), rid)
     }
 }

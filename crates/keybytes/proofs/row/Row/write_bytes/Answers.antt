@@ -2,7 +2,7 @@ use Rattle.std.proofs.Common.{◌≡◌, length, ap, arith, refl}
 use Rattle.std.proofs.lemmas.List.{take_all}
 use Rattle.keybytes.specs.Rows.{row_bytes}
 use Rattle.keybytes.proofs.Spelling.{length-row_bytes}
-use Rattle.keybytes.proofs.row.Row.to_bytes.Goals as goal
+use Rattle.keybytes.proofs.row.Row.write_bytes.Goals as goal
 
 -- all cells' bytes are there
 whole : (c : goal.After-loop-cell) → c.loop-cell.bytes.items ≡ row_bytes c.self.inside.cells.items
