@@ -37,11 +37,11 @@ pub begun_unwritten :
     (old new : LiveState) (log : List LogRec) (txn : ℕ) → OnHeap Begins old txn new → HoldsFollowLog old.heap → old.heap.log ≡ log → (rid : Rid)
     → wrote log txn rid ≡ false
 begun_unwritten old new log txn does holds known rid = elim (cases_Bool (wrote log txn rid)) [
-  | inl none ↦ none
-  | inr has ↦
+  | inl has ↦
       let begun = holds.begun txn rid (ap (λ (l : List LogRec). wrote l txn rid) known ∙ has) in
       let next : old.heap.begun + 1 ≡ txn = sym does.0.0 in
       absurd (omega (arith, begun, next))
+  | inr none ↦ none
 ]
 
 -- the cause of a refusal, as a call answers it

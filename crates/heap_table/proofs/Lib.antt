@@ -4,6 +4,7 @@ pub mod KeptChanges
 pub mod KeptFacts
 pub mod KeptTxns
 pub mod KeysAtRest
+pub mod LastRoom
 pub mod LogRows
 pub mod OpenOnes
 pub mod PageLists

@@ -1,7 +1,7 @@
 -- Lists of pages: pages by a function of the RID, and pages with another slot at a RID.
 use Rattle.std.proofs.Common.{◌≡◌, ◌≢◌, inl, inr, ℕ, zero, suc, ◌+◌, ◌<◌, ◌≤◌, max, Bool, true, false, List, [], ◌∷◌, ◌++◌, map, length, get_or, set, refl, sym}
 use Rattle.std.proofs.Common.{ap, ◌∙◌, subst, arith, get_or-set_same, get_or-set_other}
-use Rattle.std.specs.Prelude.{nat_lt, cond, Some, None}
+use Rattle.std.specs.Prelude.{nat_lt, cond, Some}
 use Rattle.std.proofs.Math.Seq.{set-append_seam}
 use Rattle.std.specs.List.{range_with_len}
 use Rattle.std.proofs.lemmas.Bool.Decides.{nat_tests}
@@ -10,11 +10,11 @@ use Rattle.std.proofs.lemmas.List.{length-set, set-get_or, ext_get_or, get_or_de
 use Rattle.std.proofs.lemmas.Option.{same_Some}
 use Rattle.std.proofs.lemmas.List.FromFn.{fill_by_all, length-map-range_with_len, get_or-map-range_with_len}
 use Rattle.keybytes.specs.declared.rid.Rid.{Rid}
-use Rattle.slotted_page.specs.Slot.{Slot, free, held, row, put, is_held, bytes_of, reserve_of, IsHeld}
+use Rattle.slotted_page.specs.Slot.{Slot, free, held, row, put, is_held, reserve_of, IsHeld}
 use Rattle.slotted_page.specs.Page.{PageValue, slot_at, with_slot, room_for}
 use Rattle.heap_table.specs.Pages.{rid_at}
-use Rattle.heap_table.specs.PageLists.{new_page, page_or_new, slot_in, page_with_slot, with_slot_in, page_by, pages_by, settled}
-use Rattle.slotted_page.proofs.PageValues.{put_is_set, get_put}
+use Rattle.heap_table.specs.PageLists.{new_page, page_or_new, slot_in, page_with_slot, with_slot_in, page_by, pages_by}
+use Rattle.slotted_page.proofs.PageValues.{put_same, get_put}
 
 map_same : {X Y : Type 0} (f g : X → Y) (xs : List X) → ((x : X) → f x ≡ g x) → map f xs ≡ map g xs
 map_same f g [] same = refl
@@ -288,22 +288,6 @@ insert_opened pages opened limit rid bytes page changed slot within is here room
     ap (λ (p : PageValue). set opened rid.page p) (put_is ∙ (ap (λ (k : ℕ). with_slot page k (row bytes (length bytes))) place
     ∙ ap (λ (p : PageValue). with_slot p rid.slot (row bytes (length bytes))) same))
     ∙ opened_set pages opened limit rid (row bytes (length bytes)) within is
-
--- the slots where the slot put is the one there
-put_same : (slots : List Slot) (s : ℕ) (x : Slot) → s < length slots → get_or slots s free ≡ x → put slots s x ≡ slots
-put_same slots s x below e = put_is_set slots s x below ∙ (ap (set slots s) (sym e) ∙ set-get_or slots s free)
-
-settled_free : (slot : Slot) → is_held slot ≡ false → bytes_of slot ≡ None → slot ≡ settled slot
-settled_free free e f = refl
-settled_free (held reserve) e f = absurd cc
-settled_free (row bytes reserve) e f = absurd cc
-
--- settling leaves a slot that is neither held nor has a row
-pub settled_same :
-    (page : PageValue) (slot : ℕ) → slot < length page.slots → is_held (slot_at page slot) ≡ false
-    → bytes_of (slot_at page slot) ≡ None → page ≡ with_slot page slot (settled (slot_at page slot))
-settled_same page slot below no_hold no_row =
-    same_page (sym (put_same page.slots slot (settled (slot_at page slot)) below (settled_free (slot_at page slot) no_hold no_row))) refl
 
 -- a held slot that stays held
 pub held_stays :

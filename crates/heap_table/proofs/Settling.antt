@@ -12,10 +12,10 @@ use Rattle.heap_log.specs.declared.record.LogRec.{LogRec}
 use Rattle.heap_log.specs.Standing.{record_at, is_write_of, is_write_at, last_of, IsWrite}
 use Rattle.heap_log.proofs.Last.{IsLast, last_below_some, last_below_none}
 use Rattle.heap_log.proofs.Numbers.{last_of-of}
-use Rattle.slotted_page.specs.Slot.{Slot, free, held, row}
+use Rattle.slotted_page.specs.Slot.{Slot, free, held, row, settled}
 use Rattle.slotted_page.specs.Page.{PageValue}
 use Rattle.heap_table.specs.Holders.{writes, wrote}
-use Rattle.heap_table.specs.PageLists.{PagesValue, new_page, page_by, slot_in, with_slot_in, pages_by, settled, settled_if}
+use Rattle.heap_table.specs.PageLists.{PagesValue, new_page, page_by, slot_in, with_slot_in, pages_by, settled_if}
 use Rattle.heap_table.specs.Ready.{HaveWritten}
 use Rattle.heap_log.proofs.Records.{rid_of-write}
 use Rattle.std.proofs.Math.Seq.{drop-length}

@@ -16,10 +16,10 @@ use Rattle.heap_log.specs.Standing.{newest_at, standing_before, live_at, row_at,
 use Rattle.heap_log.proofs.Adds.{KeepsBefore}
 use Rattle.heap_log.proofs.Last.{IsLast, last_below_some, last_below_is, last_below_agree}
 use Rattle.heap_log.proofs.Numbers.{write_at, newest_standing-of}
-use Rattle.slotted_page.specs.Slot.{Slot, row as row_slot, reserve_of}
+use Rattle.slotted_page.specs.Slot.{Slot, row as row_slot, reserve_of, settled}
 use Rattle.heap_table.specs.HeapState.{HeapState, is_open}
 use Rattle.heap_table.specs.Holders.{writes, wrote, holder, row_size, room_held_by, room_needed}
-use Rattle.heap_table.specs.PageLists.{settled, settled_if, changed}
+use Rattle.heap_table.specs.PageLists.{settled_if, changed}
 use Rattle.heap_table.specs.Pages.{slot_with, slot_under, slot_of}
 use Rattle.heap_table.specs.Sound.{IsSound, UndoFits}
 use Rattle.heap_log.proofs.Growing.{Grows}

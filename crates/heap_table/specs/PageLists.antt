@@ -4,7 +4,7 @@ use Rattle.std.specs.Prelude.{None, List, [], ◌∷◌, ◌++◌, length, map, 
 use Rattle.std.specs.List.{range_with_len}
 use Rattle.chunk_list.specs.ChunkValue.{ChunkValue}
 use Rattle.keybytes.specs.declared.rid.Rid.{Rid}
-use Rattle.slotted_page.specs.Slot.{Slot, free, held, row, reserve_of}
+use Rattle.slotted_page.specs.Slot.{Slot, held, row, reserve_of, settled}
 use Rattle.slotted_page.specs.Page.{PageValue, slot_at, with_slot, room_for}
 use Rattle.heap_table.specs.Rooms.{RoomsValue}
 use Rattle.heap_table.specs.Pages.{rid_at}
@@ -45,12 +45,6 @@ page_by slot slots limit page =
 -- so many such pages, from page 0 on
 abbrev pub pages_by : (Rid → Slot) → (ℕ → ℕ) → ℕ → ℕ → List PageValue
 pages_by slot slots count limit = map (page_by slot slots limit) (range_with_len 0 count)
-
--- what a slot becomes when its transaction ends: a row's reserve is cut to its length, a held slot is freed
-abbrev pub settled : Slot → Slot
-settled free = free
-settled (held reserve) = free
-settled (row bytes reserve) = row bytes (length bytes)
 
 -- what a slot becomes with a new row, or with none until its transaction ends: its reserve grows with the row
 abbrev pub changed : Slot → Option (List ℕ) → Slot

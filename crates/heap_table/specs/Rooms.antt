@@ -1,10 +1,15 @@
 -- The rooms of a table's pages, and the tree that has them as its leaves.
-use Rattle.std.specs.Prelude.{◌≡◌, ℕ, ◌+◌, ◌*◌, ◌^◌, ◌<◌, ◌≤◌, max, List, length, get_or, drop}
+use Rattle.std.specs.Prelude.{◌≡◌, ℕ, ◌+◌, ◌*◌, ◌^◌, ◌<◌, ◌≤◌, max, List, [], ◌∷◌, ◌++◌, length, get_or, drop, Option, Some, None}
 
 -- for each page the most bytes that an insert there may have, and how many more pages can be added without memory
 pub record RoomsValue : Type 0 where
   pub rooms : List ℕ
   pub spare : ℕ
+
+-- the rooms of the pages below the last one, and that of the last one, if there is a page
+abbrev pub with_last : RoomsValue → Option ℕ → RoomsValue
+with_last below None = record { rooms = below.rooms; spare = below.spare + 1 }
+with_last below (Some room) = record { rooms = below.rooms ++ room ∷ []; spare = below.spare }
 
 -- each node that has two below it, 2 n and 2 n + 1, is the greater of them
 abbrev pub IsTournament : List ℕ → Type 0

@@ -20,6 +20,7 @@ mod page_image;
 mod pages;
 mod performed;
 mod ready;
+mod room_tree;
 mod rooms;
 mod undone;
 

@@ -1,10 +1,10 @@
 //! The pages of a table, by number.
 ghost use Rattle.std.specs.Prelude.{ℕ, is_some, nat_le, ◌≡◌, ◌<◌, ◌≤◌, ◌+◌, ◌∷◌, ◌++◌, [], length, max, cond, nat_lt, get_or, position, Some, None};
 ghost use Rattle.std.specs.Prelude.{true, IfSome, IfErr, OnOk, OnErr, MatchOption};
-ghost use Rattle.slotted_page.specs.Slot.{row, held, bytes_of, reserve_of, IsRow, IsTaken, IsRowSize};
+ghost use Rattle.slotted_page.specs.Slot.{row, held, bytes_of, reserve_of, settled, IsRow, IsTaken, IsRowSize};
 ghost use Rattle.slotted_page.specs.Page.{PageValue, slot_at, with_slot, room_for, fits_at};
 ghost use Rattle.heap_table.specs.HeapState.{takes};
-ghost use Rattle.heap_table.specs.PageLists.{new_page, page_or_new, slot_in, with_slot_in, settled};
+ghost use Rattle.heap_table.specs.PageLists.{new_page, page_or_new, slot_in, with_slot_in};
 
 use crate::rooms::Rooms;
 use chunk_list::ChunkList;
@@ -141,9 +141,18 @@ impl Pages {
         ensures limit { self.new.limit ≡ self.old.limit }
         ensures spare { self.old.spare ≤ self.new.spare + 1 }
     {
-        if number < self.pages.len() {
-            return;
+        if number == self.pages.len() {
+            self.add_page();
         }
+    }
+
+    /// Adds an empty page. It is a function of its own since each call clears the room that the page has on the stack.
+    fn add_page(&mut self)
+        requires { 0 < self.old.spare }
+        ensures pages { self.new.pages ≡ self.old.pages ++ new_page self.old.limit ∷ [] }
+        ensures limit { self.new.limit ≡ self.old.limit }
+        ensures spare { self.old.spare ≤ self.new.spare + 1 }
+    {
         let Ok(page) = Page::new(self.slot_limit) else {
             unreachable!()
         };
@@ -233,20 +242,8 @@ impl Pages {
     {
         let number = rid.page as usize;
         let page = &mut self.pages[number];
-        settle_slot(page, rid.slot);
+        page.settle(rid.slot);
         self.rooms.set(number, room_of(page));
-    }
-}
-
-/// Cuts a row's reserve to its length, frees a held slot, and leaves a free one.
-fn settle_slot(page: &mut Page, slot: u16)
-    requires { slot < length page.old.slots }
-    ensures { page.new ≡ with_slot page.old slot (settled (slot_at page.old slot)) }
-{
-    if page.is_held(slot) {
-        page.free(slot);
-    } else if page.row(slot).is_some() {
-        page.trim(slot);
     }
 }
 

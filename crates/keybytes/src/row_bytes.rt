@@ -48,10 +48,9 @@ fn push_int(bytes: &mut Vec<u8>, number: i64) -> Result<(), Fault>
     ensures ok { OnOk result (bytes.new.items ≡ bytes.old.items ++ cell_bytes (Cell.Int number)) }
     ensures memory { IfErr result (λ fault. fault ≡ Fault.Memory) }
 {
-    let mut digits = [0; 8];
-    BigEndian::write_u64(&mut digits, number.cast_unsigned());
-    bytes.push(PRESENT)?;
-    bytes.extend_from_slice(&digits)?;
+    let mut cell = [PRESENT; 9];
+    BigEndian::write_u64(&mut cell[1..], number.cast_unsigned());
+    bytes.extend_from_slice(&cell)?;
     Ok(())
 }
 

@@ -7,7 +7,8 @@ use Rattle.std.proofs.lemmas.List.{length-append, length-drop, length-set, lengt
 use Rattle.std.proofs.lemmas.List.Elements.{All-head, All-tail, All-set, All-push}
 use Rattle.std.proofs.lemmas.List.Sums.{sum_by-cons, sum_by-set, sum_by_push}
 use Rattle.std.proofs.lemmas.Slice.{drop-append-drop}
-use Rattle.slotted_page.specs.Slot.{Slot, free, held, row, reserve_of, total_reserve}
+use Rattle.std.proofs.Math.Seq.{set-append_seam}
+use Rattle.slotted_page.specs.Slot.{Slot, held, row, reserve_of, total_reserve}
 use Rattle.slotted_page.specs.Page.{taken_bytes}
 use Rattle.slotted_page.specs.Entry.{slot_of, slots_of, length_of, entry_reserve, IsPlaced}
 use Rattle.keybytes.specs.Writes.{overwritten}
@@ -182,27 +183,57 @@ pub slots_set : {image : List ℕ} {es : List Entry} {count floor : ℕ} → Lai
 slots_set {image = image} {es = es} {floor = floor} f b s e lt is placed =
     slots_same b image floor (set es s e) (rows_kept f b s e lt is) (All-set (IsPlaced floor) es s e placed f.placed) ∙ map-set (slot_of image) es s e
 
--- one more entry, of a free slot
-pub laid_push : {image : List ℕ} {es : List Entry} {count floor : ℕ} → Laid image es count floor → (b c : List ℕ) →
-    b ≡ overwritten (8 + 6 * count) (entry_bytes Free) image → c ≡ head_bytes (count + 1) floor ++ drop 8 b →
-    8 + 6 * (count + 1) ≤ floor → taken_bytes (count + 1) (sum_by entry_reserve es) ≤ 4096 →
-    Laid c (es ++ Free ∷ []) (count + 1) floor
-laid_push {image = image} {es = es} {count = count} {floor = floor} f b c wrote head above room =
-    let long : length b ≡ 4096 = ap length wrote ∙ length-overwritten (8 + 6 * count) (entry_bytes Free) image (omega (arith, f.long, f.within)) ∙ f.long in
-    let entries : take (6 * (count + 1)) (drop 8 b) ≡ flat_map entry_bytes (es ++ Free ∷ []) =
-    ap (λ (xs : List ℕ). take (6 * (count + 1)) (drop 8 xs)) wrote ∙ entries_push es count Free image f.counted (omega (arith, f.long, f.within)) f.entries in
-    laid_head b c (es ++ Free ∷ []) (count + 1) floor long head (length_push es Free ∙ ap (λ (n : ℕ). n + 1) f.counted) entries above f.within
-    (λ z. absurd (omega arith))
-    (All-push (IsPlaced floor) es Free f.placed tt) (apart_push es f.apart) (omega (arith, room, sum_by_push entry_reserve es Free))
+-- a row's bytes, an entry of it behind the others, and the head, written one after the other
+pub record Adds (image b c d : List ℕ) (count low : ℕ) (bytes : List ℕ) : Type 0 where
+  pub wrote : b ≡ overwritten low bytes image
+  pub entry : c ≡ overwritten (8 + 6 * count) (entry_bytes (Row low (length bytes) (length bytes))) b
+  pub head : d ≡ head_bytes (count + 1) low ++ drop 8 c
+  pub some : 0 < length bytes
+  pub size : length bytes ≤ 1224
+  pub above : 8 + 6 * (count + 1) ≤ low
 
-pub slots_push : {image : List ℕ} {es : List Entry} {count floor : ℕ} → Laid image es count floor → (b c : List ℕ) →
-    b ≡ overwritten (8 + 6 * count) (entry_bytes Free) image → c ≡ head_bytes (count + 1) floor ++ drop 8 b → 8 + 6 * (count + 1) ≤ floor →
-    slots_of c (es ++ Free ∷ []) ≡ slots_of image es ++ free ∷ []
-slots_push {image = image} {es = es} {count = count} {floor = floor} f b c wrote head above =
-    let d : drop floor c ≡ drop floor image =
-    ap (drop floor) head ∙ drop-append-drop 8 b (head_bytes (count + 1) floor) floor (omega arith) refl ∙ ap (drop floor) wrote
-    ∙ drop-overwritten floor (8 + 6 * count) (entry_bytes Free) image (omega arith) (omega (arith, f.long, f.within)) in
-    slots_same c image floor (es ++ Free ∷ []) d (All-push (IsPlaced floor) es Free f.placed tt) ∙ map_push (slot_of image) es Free
+-- the page with the row's bytes alone
+with_row : {image b c d : List ℕ} {es : List Entry} {count floor low : ℕ} {bytes : List ℕ} → Laid image es count floor → Adds image b c d count low bytes
+    → low + length bytes ≡ floor → Laid b es count floor
+with_row {image = image} {b = b} {count = count} {low = low} {bytes = bytes} f k end =
+    let inside : low + length bytes ≤ length image = omega (arith, f.long, f.within, end) in
+    laid_front f b (ap length k.wrote ∙ length-overwritten low bytes image inside ∙ f.long)
+    (ap (take (8 + 6 * count)) k.wrote ∙ take-overwritten (8 + 6 * count) low bytes image (omega (arith, k.above)) (omega (arith, inside)))
+
+pub laid_add : {image b c d : List ℕ} {es : List Entry} {count floor low : ℕ} {bytes : List ℕ} → Laid image es count floor → Adds image b c d count low bytes
+    → low + length bytes ≡ floor → taken_bytes (count + 1) (sum_by entry_reserve es + length bytes) ≤ 4096
+    → Laid d (es ++ Row low (length bytes) (length bytes) ∷ []) (count + 1) low
+laid_add {b = b} {c = c} {d = d} {es = es} {count = count} {floor = floor} {low = low} {bytes = bytes} f k end room =
+    let e = Row low (length bytes) (length bytes) in
+    let g = with_row f k end in
+    let inside : 8 + 6 * count + length (entry_bytes e) ≤ length b = omega (arith, length_entry e, g.long, f.within, end, k.above) in
+    let long : length c ≡ 4096 = ap length k.entry ∙ length-overwritten (8 + 6 * count) (entry_bytes e) b inside ∙ g.long in
+    let entries : take (6 * (count + 1)) (drop 8 c) ≡ flat_map entry_bytes (es ++ e ∷ []) =
+    ap (λ (xs : List ℕ). take (6 * (count + 1)) (drop 8 xs)) k.entry ∙ entries_push es count e b f.counted (omega (arith, g.long, f.above, f.within)) g.entries in
+    let apart : AllApart (es ++ e ∷ []) =
+    subst AllApart (set-append_seam es Free [] e) (apart_store floor (es ++ Free ∷ []) (length es) low (length bytes) (length bytes) (omega (arith, end))
+    (All-push (IsPlaced floor) es Free f.placed tt) (apart_push es f.apart)) in
+    laid_head c d (es ++ e ∷ []) (count + 1) low long k.head (length_push es e ∙ ap (λ (n : ℕ). n + 1) f.counted) entries k.above
+    (omega (arith, f.within, end)) (λ z. absurd (omega arith))
+    (All-push (IsPlaced low) es e (all_lower low floor es (omega (arith, end)) f.placed)
+    (omega arith, omega (arith, f.within, end), k.some, k.size, omega arith))
+    apart (omega (arith, room, sum_by_push entry_reserve es e))
+
+pub slots_add : {image b c d : List ℕ} {es : List Entry} {count floor low : ℕ} {bytes : List ℕ} → Laid image es count floor → Adds image b c d count low bytes
+    → low + length bytes ≡ floor → slots_of d (es ++ Row low (length bytes) (length bytes) ∷ []) ≡ slots_of image es ++ row bytes (length bytes) ∷ []
+slots_add {image = image} {b = b} {c = c} {d = d} {es = es} {count = count} {floor = floor} {low = low} {bytes = bytes} f k end =
+    let e = Row low (length bytes) (length bytes) in
+    let inside : low + length bytes ≤ length image = omega (arith, f.long, f.within, end) in
+    let long = (with_row f k end).long in
+    let after : drop low d ≡ drop low b =
+    ap (drop low) k.head ∙ drop-append-drop 8 c (head_bytes (count + 1) low) low (omega (arith, k.above)) refl ∙ ap (drop low) k.entry
+    ∙ drop-overwritten low (8 + 6 * count) (entry_bytes e) b (omega (arith, length_entry e, k.above)) (omega (arith, length_entry e, long, f.within, end, k.above)) in
+    let rest : drop floor d ≡ drop floor image =
+    same_drop d b low floor (omega (arith, end)) after ∙ ap (drop floor) k.wrote ∙ drop-overwritten floor low bytes image (omega (arith, end)) (omega (arith, inside)) in
+    let range : slice_range d low (low + length bytes) ≡ bytes =
+    ap (take ((low + length bytes) - low)) (after ∙ ap (drop low) k.wrote) ∙ range-overwritten low bytes image (omega (arith, inside)) in
+    map_push (slot_of d) es e ∙ ap (λ (xs : List Slot). xs ++ slot_of d e ∷ []) (slots_same d image floor es rest f.placed)
+    ∙ ap (λ (ys : List ℕ). slots_of image es ++ row ys (length bytes) ∷ []) range
 
 pub held_entry : (image : List ℕ) (e : Entry) (r : ℕ) → slot_of image e ≡ held r → e ≡ Held r
 held_entry image Free r h = cc

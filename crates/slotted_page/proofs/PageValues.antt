@@ -3,10 +3,10 @@ use Rattle.std.proofs.Common.{◌≡◌, ℕ, ◌+◌, ◌≤◌, ◌<◌, suc, 
 use Rattle.std.proofs.Common.{Option, Some, None}
 use Rattle.std.specs.Prelude.{position, nat_lt, ◌&&◌}
 use Rattle.std.proofs.lemmas.Bool.{leb-true, ltb-true, false≢true}
-use Rattle.std.proofs.lemmas.List.{get_or_past, length_push, length-set}
-use Rattle.std.proofs.lemmas.List.Sums.{sum_by-set, sum_by_push}
+use Rattle.std.proofs.lemmas.List.{get_or_past, length-set}
+use Rattle.std.proofs.lemmas.List.Sums.{sum_by-set}
 use Rattle.std.proofs.lemmas.List.Quantifiers.{position-Some}
-use Rattle.slotted_page.specs.Slot.{Slot, free, held, row, is_free, reserve_of, total_reserve, put, IsRow, IsHeld}
+use Rattle.slotted_page.specs.Slot.{Slot, free, held, row, is_free, reserve_of, settled, total_reserve, put, IsRow, IsHeld}
 use Rattle.slotted_page.specs.Page.{PageValue, slot_at, with_slot, taken_bytes, has_room, slot_for, room_for}
 
 pub put_is_set : (slots : List Slot) (s : ℕ) (x : Slot) → s < length slots → put slots s x ≡ set slots s x
@@ -19,10 +19,16 @@ put_push [] s x e = refl
 put_push (y ∷ slots) zero x e = absurd (omega arith)
 put_push (y ∷ slots) (suc s) x e = ap (λ ys. y ∷ ys) (put_push slots s x (omega arith))
 
-pub put_same : (slots : List Slot) (s : ℕ) → s < length slots → get_or slots s free ≡ free → put slots s free ≡ slots
-put_same [] s lt e = absurd (omega arith)
-put_same (y ∷ slots) zero lt e = ap (λ x. x ∷ slots) (sym e)
-put_same (y ∷ slots) (suc s) lt e = ap (λ ys. y ∷ ys) (put_same slots s (omega arith) e)
+pub put_same : (slots : List Slot) (s : ℕ) (x : Slot) → s < length slots → get_or slots s free ≡ x → put slots s x ≡ slots
+put_same [] s x lt e = absurd (omega arith)
+put_same (y ∷ slots) zero x lt e = ap (λ z. z ∷ slots) (sym e)
+put_same (y ∷ slots) (suc s) x lt e = ap (λ ys. y ∷ ys) (put_same slots s x (omega arith) e)
+
+-- a slot with nothing to settle
+pub settled_stays : (page : PageValue) (s : ℕ) → s < length page.slots → slot_at page s ≡ settled (slot_at page s)
+    → page ≡ with_slot page s (settled (slot_at page s))
+settled_stays page s lt same =
+    ap (λ (slots : List Slot). let q : PageValue = record { slots = slots; limit = page.limit } in q) (sym (put_same page.slots s (settled (slot_at page s)) lt same))
 
 pub put_put : (slots : List Slot) (s : ℕ) (x y : Slot) → s ≤ length slots → put (put slots s x) s y ≡ put slots s y
 put_put [] zero x y le = refl
@@ -38,12 +44,6 @@ get_put (z ∷ slots) (suc s) x le = get_put slots s x (omega arith)
 
 pub length_put : (slots : List Slot) (s : ℕ) (x : Slot) → s < length slots → length (put slots s x) ≡ length slots
 length_put slots s x lt = ap length (put_is_set slots s x lt) ∙ length-set slots s x
-
-pub within_put : (slots : List Slot) (s : ℕ) (x : Slot) → s ≤ length slots → s < length (put slots s x)
-within_put [] zero x le = omega arith
-within_put [] (suc s) x le = absurd (omega arith)
-within_put (y ∷ slots) zero x le = omega arith
-within_put (y ∷ slots) (suc s) x le = let h = within_put slots s x (omega arith) in omega arith
 
 pub put_total : (slots : List Slot) (s : ℕ) (x : Slot) → s < length slots →
     total_reserve (put slots s x) + reserve_of (get_or slots s free) ≡ total_reserve slots + reserve_of x
@@ -86,8 +86,8 @@ pub record RoomFacts (page : PageValue) (n s : ℕ) : Type 0 where
   pub there : s ≤ length page.slots
   pub is_free : slot_at page s ≡ free
   pub limit : s ≡ length page.slots → s < page.limit
-  pub grow : s ≡ length page.slots → taken_bytes (s + 1) (total_reserve page.slots) ≤ 4096
-  pub room : taken_bytes (length (put page.slots s free)) (total_reserve (put page.slots s free)) + n ≤ 4096
+  pub grow : s ≡ length page.slots → taken_bytes (length page.slots + 1) (total_reserve page.slots + n) ≤ 4096
+  pub room : s < length page.slots → taken_bytes (length page.slots) (total_reserve page.slots) + n ≤ 4096
 
 some_true : (b : Bool) (s t : ℕ) → Some s ≡ cond b (Some t) None → (b ≡ true) × (s ≡ t)
 some_true true s t e = (refl, cc)
@@ -112,13 +112,12 @@ facts_from (Some i) page n s p e =
     let lt : i < length page.slots = q.0 in
     let fi = free_slot (get_or page.slots i free) q.1 in
     let f : slot_at page s ≡ free = ap (slot_at page) w ∙ fi in
-    let same = put_same page.slots s (omega arith) f in
     record {
       there = omega arith;
       is_free = f;
       limit = λ k. absurd (omega arith);
       grow = λ k. absurd (omega arith);
-      room = rw same (omega (arith, r));
+      room = λ k. omega (arith, r);
     }
 facts_from None page n s p e =
     let h = some_true (nat_lt (length page.slots) page.limit && has_room (length page.slots + 1) (total_reserve page.slots + n)) s (length page.slots) e in
@@ -126,16 +125,12 @@ facts_from None page n s p e =
     let b = both_true (nat_lt (length page.slots) page.limit) (has_room (length page.slots + 1) (total_reserve page.slots + n)) h.0 in
     let l = ltb-true (length page.slots) page.limit b.0 in
     let r = leb-true (taken_bytes (length page.slots + 1) (total_reserve page.slots + n)) 4096 b.1 in
-    let grown = put_push page.slots s free w in
-    let t = sum_by_push reserve_of page.slots free in
-    let m : length (put page.slots s free) ≡ length page.slots + 1 = ap length grown ∙ length_push page.slots free in
-    let u : total_reserve (put page.slots s free) ≡ total_reserve page.slots + 0 = ap total_reserve grown ∙ t in
     record {
       there = omega arith;
       is_free = get_or_past page.slots s free (omega arith);
       limit = λ k. omega (arith, l);
       grow = λ k. omega (arith, r);
-      room = omega (arith, r, m, u);
+      room = λ k. absurd (omega arith);
     }
 
 pub room_facts : (page : PageValue) (n s : ℕ) → Some s ≡ room_for page n → RoomFacts page n s

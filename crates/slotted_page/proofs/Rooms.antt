@@ -5,7 +5,7 @@ use Rattle.std.proofs.lemmas.Bool.{cases_lt, false≢true}
 use Rattle.std.proofs.lemmas.List.{length-set, get_or-set_same, get_or-set_other}
 use Rattle.std.proofs.lemmas.List.Sums.{position_or_len_is, fails_before_first, passes_at_first, prefix_len-le-length}
 use Rattle.std.proofs.lemmas.List.Folds.{position_or_len-set, position_or_len_push}
-use Rattle.slotted_page.specs.Slot.{Slot, free, held, row, is_free, lowest_free, put}
+use Rattle.slotted_page.specs.Slot.{Slot, free, is_free, lowest_free, put}
 use Rattle.slotted_page.specs.Entry.{slot_of, is_free_entry}
 use Rattle.slotted_page.specs.Image.{image_entries, slots_in}
 use Rattle.slotted_page.specs.declared.entry.Entry.{Entry}

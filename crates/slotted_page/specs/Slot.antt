@@ -30,6 +30,12 @@ trimmed free = free
 trimmed (held reserve) = held reserve
 trimmed (row bytes reserve) = row bytes (length bytes)
 
+-- the slot once nothing can be taken back in it any more
+abbrev pub settled : Slot → Slot
+settled free = free
+settled (held reserve) = free
+settled (row bytes reserve) = row bytes (length bytes)
+
 -- whether a slot is free
 abbrev pub is_free : Slot → Bool
 is_free free = true

@@ -71,18 +71,24 @@ fn make_room(image: &mut [u8; PAGE_SIZE], needed: usize) -> usize
     image_floor(image)
 }
 
-/// Adds a free slot.
-pub(crate) fn add_slot(image: &mut [u8; PAGE_SIZE])
+/// Adds a slot with `bytes` as its row, which is promised no more.
+pub(crate) fn add_row(image: &mut [u8; PAGE_SIZE], bytes: &[u8])
     requires format { KeepsFormat image.old }
-    requires room { taken_bytes (length (slots_in image.old) + 1) (total_reserve (slots_in image.old))
-        ≤ PAGE_SIZE }
+    requires room { taken_bytes (length (slots_in image.old) + 1) (total_reserve (slots_in image.old) + length bytes.now) ≤ PAGE_SIZE }
+    requires size { IsRowSize (length bytes.now) }
     ensures format { KeepsFormat image.new }
-    ensures slots { slots_in image.new ≡ slots_in image.old ++ free ∷ [] }
+    ensures slots { slots_in image.new ≡ slots_in image.old ++ row bytes.now (length bytes.now) ∷ [] }
 {
-    let floor = make_room(image, ENTRY_SIZE);
+    let offset = make_room(image, ENTRY_SIZE + bytes.len()) - bytes.len();
     let count = image_slots(image);
-    write_entry(image, count as usize, Entry::Free);
-    write_head(image, count + 1, floor as u16);
+    let entry = Entry::Row {
+        offset: offset as u16,
+        length: bytes.len() as u16,
+        reserve: bytes.len() as u16,
+    };
+    write_at(image, offset, bytes);
+    write_entry(image, count as usize, entry);
+    write_head(image, count + 1, offset as u16);
 }
 
 /// Stores `bytes` as the row of a slot that is held with a reserve no less than their number.

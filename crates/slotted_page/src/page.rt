@@ -1,13 +1,13 @@
 ghost use Rattle.std.specs.Prelude.{◌≡◌, ◌↔◌, ℕ, ◌+◌, ◌^◌, ◌<◌, ◌≤◌, [], length, cond, is_some, position, nat_le, true, false, IsTrue, IfOk, OnErr, IfErr};
 ghost use Rattle.std.specs.Prelude.{IfSome, MatchResult, MatchOption, Some, None};
-ghost use Rattle.slotted_page.specs.Slot.{free, held, row, is_free, is_held, bytes_of, trimmed, total_reserve, rows_from, IsRow, IsHeld, IsTaken, IsRowSize};
+ghost use Rattle.slotted_page.specs.Slot.{free, held, row, is_free, is_held, bytes_of, settled, trimmed, total_reserve, rows_from, IsRow, IsHeld, IsTaken, IsRowSize};
 ghost use Rattle.slotted_page.specs.Page.{slot_at, reserve_at, grown_reserve, with_slot, taken_bytes, has_room, room_for, slots_with_row, bytes_left, fits_at};
 ghost use Rattle.slotted_page.specs.Page.{CanReserve, IsSoundPage};
 ghost use Rattle.slotted_page.specs.Rows.{rows_left};
 ghost use Rattle.slotted_page.specs.Image.{slots_in, KeepsFormat};
 
 use crate::Rows;
-use crate::area::{add_slot, store};
+use crate::area::{add_row, store};
 use crate::entry::{Entry, MAX_ROW_SIZE};
 use crate::image::{
     ENTRY_SIZE, HEAD_SIZE, PAGE_SIZE, entry_in, image_row, image_slots, next_free, write_at,
@@ -78,8 +78,11 @@ impl Page {
         let Some(slot) = self.room(bytes.len()) else {
             return Err(Fault::PageFull);
         };
-        self.open_slot(slot as usize);
-        self.put_row(slot as usize, bytes.len() as u16, bytes);
+        if slot < self.slots() {
+            self.move_row(slot as usize, bytes.len() as u16, bytes);
+        } else {
+            self.add_row(bytes);
+        }
         Ok(slot)
     }
 
@@ -155,6 +158,27 @@ impl Page {
         write_entry(&mut self.image, slot as usize, Entry::Free);
         self.reserved -= reserve;
         self.first_free = self.first_free.min(slot);
+    }
+
+    /// Ends what may still be taken back in a slot: cuts a row's reserve to its length, frees a held slot, and leaves a free
+    /// one.
+    pub fn settle(&mut self, slot: u16)
+        requires { slot < length self.old.slots }
+        ensures { self.new ≡ with_slot self.old slot (settled (slot_at self.old slot)) }
+    {
+        match entry_in(&self.image, slot as usize) {
+            Entry::Free => {}
+            Entry::Held { .. } => self.free(slot),
+            Entry::Row {
+                length,
+                reserve,
+                ..
+            } => {
+                if length < reserve {
+                    self.trim(slot);
+                }
+            }
+        }
     }
 
     /// The row in a slot. A slot that is free, held or not on the page has none.
@@ -266,17 +290,18 @@ impl Page {
         }
     }
 
-    /// Sees that the page has `slot`, which is a free one or the next new one.
-    fn open_slot(&mut self, slot: usize)
-        requires there { slot ≤ length self.old.slots }
-        requires is_free { slot_at self.old slot ≡ free }
-        requires limit { slot ≡ length self.old.slots → slot < self.old.limit }
-        requires room { slot ≡ length self.old.slots →
-            taken_bytes (slot + 1) (total_reserve self.old.slots) ≤ PAGE_SIZE }
-        ensures { self.new ≡ with_slot self.old slot free }
+    /// Puts a row into a new slot.
+    fn add_row(&mut self, bytes: &[u8])
+        requires limit { length self.old.slots < self.old.limit }
+        requires room { taken_bytes (length self.old.slots + 1) (total_reserve self.old.slots + length bytes.now) ≤ PAGE_SIZE }
+        requires size { IsRowSize (length bytes.now) }
+        ensures { self.new ≡ with_slot self.old (length self.old.slots) (row bytes.now (length bytes.now)) }
     {
-        if slot == image_slots(&self.image) as usize {
-            add_slot(&mut self.image);
+        let slots = image_slots(&self.image);
+        add_row(&mut self.image, bytes);
+        self.reserved += bytes.len() as u16;
+        if self.first_free == slots {
+            self.first_free += 1;
         }
     }
 

@@ -1,20 +1,15 @@
-use Rattle.std.proofs.Common.{◌∙◌, arith, sym, ap}
+use Rattle.std.proofs.Common.{◌≡◌, ◌∙◌, ℕ, ap, sym, None, Option, Some}
 use Rattle.std.specs.Prelude.{position, nat_le}
-use Rattle.std.proofs.lemmas.List.{get_or_read}
-use Rattle.heap_table.specs.Rooms.{RoomsValue}
-use Rattle.heap_table.proofs.Tournament.{none_in_root, first_page}
+use Rattle.std.proofs.lemmas.Bool.{le-leb}
+use Rattle.heap_table.specs.Rooms.{RoomsValue, with_last}
+use Rattle.heap_table.proofs.LastRoom.{lowest_last}
 use Rattle.heap_table.proofs.rooms.Rooms.lowest.Goals as goal
 
-pub returns-then-index-len : goal.returns-then-index-len
-returns-then-index-len c =
-    let r = c.self.invariant in
-    let root = get_or_read c.self.inside.nodes.items 1 c.index.result.now (omega (arith, c.if-self-eq0.false, r.counted, r.long)) c.index.ensures 0 in
-    none_in_root r c.args.len (omega (arith, c.if-self-eq0.false)) (omega (arith, root, c.if-index-len.true))
-    ∙ ap (λ (rooms : RoomsValue). position (λ room. nat_le c.args.len room) rooms.rooms) c.self.view_is
-
-pub returns : goal.returns
-returns c =
-    let r = c.self.invariant in
-    let full = r.full (omega (arith, c.if-self-eq0.false, r.counted)) in
-    first_page r c.args.len c.first_leaf.result c.requires (rw (sym c.deref.ensures.value, full) c.first_leaf.ensures)
-    ∙ ap (λ (rooms : RoomsValue). position (λ room. nat_le c.args.len room) rooms.rooms) c.self.view_is
+pub returns-in-Some-last : goal.returns-in-Some-last
+returns-in-Some-last c =
+    let below = c.self.inside.below in
+    let fits = λ (room : ℕ). nat_le c.args.len room in
+    let none : None ≡ position fits below.rooms = sym c.in_default.is ∙ c.lowest.ensures in
+    ap Some c.len.ensures ∙ lowest_last fits below c.in-Some-last.room none (le-leb c.args.len c.in-Some-last.room c.if-len-room.true)
+    ∙ ap (λ (last : Option ℕ). position fits (with_last below last).rooms) (sym c.in-Some-last.is)
+    ∙ ap (λ (v : RoomsValue). position fits v.rooms) c.self.view_is

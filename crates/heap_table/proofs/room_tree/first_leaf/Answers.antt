@@ -1,8 +1,8 @@
 use Rattle.std.proofs.Common.{◌+◌, ◌*◌, ◌<◌, length, arith}
 use Rattle.std.proofs.lemmas.Nat.{pow_pos}
 use Rattle.heap_table.proofs.Tournament.{level_more, level_below, first_left, first_right}
-use Rattle.heap_table.proofs.rooms.first_leaf.Goals as goal
-use Rattle.heap_table.proofs.rooms.first_leaf.Goals.{then-nodes-left, else-nodes-left}
+use Rattle.heap_table.proofs.room_tree.first_leaf.Goals as goal
+use Rattle.heap_table.proofs.room_tree.first_leaf.Goals.{then-nodes-left, else-nodes-left}
 
 pub overflow_mul-left : goal.overflow_mul-left
 overflow_mul-left c = omega (arith, level_below c.loop-level._level c.args.height c.loop-level-test.true)

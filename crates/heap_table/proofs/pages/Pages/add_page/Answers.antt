@@ -1,6 +1,6 @@
 use Rattle.std.proofs.Common.{arith}
 use Rattle.heap_table.proofs.RoomsOfPages.{rooms_pushed}
-use Rattle.heap_table.proofs.pages.Pages.open_page.Goals as goal
+use Rattle.heap_table.proofs.pages.Pages.add_page.Goals as goal
 
 pub invariant_of-self : goal.invariant_of-self
 invariant_of-self c = record {

@@ -1,6 +1,6 @@
 use Rattle.std.proofs.Common.{◌<◌, ◌*◌, ◌^◌}
 use Rattle.heap_table.specs.Rooms.{IsFirstFrom}
-use Rattle.heap_table.proofs.rooms.first_leaf.Given as goal
+use Rattle.heap_table.proofs.room_tree.first_leaf.Given as goal
 
 abbrev pub invariant-loop-level : goal.invariant-loop-level
 invariant-loop-level l = record {

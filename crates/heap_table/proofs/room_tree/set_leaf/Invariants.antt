@@ -1,6 +1,6 @@
 use Rattle.std.proofs.Common.{◌≡◌, ◌≢◌, ◌<◌, ◌+◌, ◌*◌, ℕ, length, get_or, set, drop}
 use Rattle.std.specs.Prelude.{max}
-use Rattle.heap_table.proofs.rooms.set_leaf.Given as goal
+use Rattle.heap_table.proofs.room_tree.set_leaf.Given as goal
 
 abbrev pub invariant-loop-node : goal.invariant-loop-node
 invariant-loop-node l = record {

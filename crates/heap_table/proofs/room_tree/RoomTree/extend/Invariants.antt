@@ -1,5 +1,5 @@
 use Rattle.std.proofs.Common.{◌≡◌, ◌+◌, ◌++◌, take}
-use Rattle.heap_table.proofs.rooms.Rooms.extend.Given as goal
+use Rattle.heap_table.proofs.room_tree.RoomTree.extend.Given as goal
 
 abbrev pub invariant-loop-room : goal.invariant-loop-room
 invariant-loop-room l = record {

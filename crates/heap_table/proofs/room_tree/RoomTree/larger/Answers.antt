@@ -1,6 +1,6 @@
 use Rattle.std.proofs.Common.{arith}
 use Rattle.heap_table.proofs.Tournament.{height_below}
-use Rattle.heap_table.proofs.rooms.Rooms.larger.Goals as goal
+use Rattle.heap_table.proofs.room_tree.RoomTree.larger.Goals as goal
 
 pub overflow_add-self-inside : goal.overflow_add-self-inside
 overflow_add-self-inside c =
